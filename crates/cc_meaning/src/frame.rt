@@ -1,0 +1,10 @@
+//! Frames of the byte stream between two nodes.
+
+use crate::lists::Bytes;
+
+/// A frame: its kind, 1 to 5, and its payload.
+#[derive(Drop)]
+pub struct Frame {
+    pub kind: u8,
+    pub payload: Bytes,
+}

@@ -1,0 +1,64 @@
+//! Values, objects and frames.
+
+use crate::lists::{ClassIx, MethodIx, ObjId, ObjIds, Units};
+use cc_list::List;
+
+/// A value: a number of 32 or 64 bits, or a reference, null where there is no object.
+#[derive(Clone, Copy, PartialEq, Eq)]
+pub enum Value {
+    Int(i32),
+    Long(i64),
+    Obj(Option<ObjId>),
+}
+
+/// Values, as those of an object's members.
+pub type Values = List<Value>;
+
+/// An object of a heap. `Out` is the object of `System.out`, and a `Constant` the object of a class constant.
+#[derive(Drop)]
+pub enum Object {
+    Out,
+    Instance { class: ClassIx, values: Values },
+    Array { class: ClassIx, values: Values },
+    Text(Units),
+    Builder(Units),
+    Constant(ClassIx),
+}
+
+/// Objects, each at its number.
+pub type Objects = List<Object>;
+
+/// What a register holds. A number of 64 bits stands in its first register as a value, and in the next one as `High`.
+#[derive(Clone, Copy, PartialEq, Eq)]
+pub enum Cell {
+    Unset,
+    Value(Value),
+    High,
+}
+
+/// The registers of a frame.
+pub type Cells = List<Cell>;
+
+/// A frame: a method with code, the address of its next instruction, and its registers.
+#[derive(Drop)]
+pub struct Activation {
+    pub method: MethodIx,
+    pub pc: u32,
+    pub cells: Cells,
+}
+
+/// A text or class, and the object that was made for it.
+#[derive(Clone, Copy, PartialEq, Eq)]
+pub struct Made {
+    pub what: u32,
+    pub number: u32,
+}
+
+/// What was made, by rising `what`.
+pub type MadeList = List<Made>;
+
+/// Objects in the order in which they were captured: the object of number i stands at i - 1.
+#[derive(Drop)]
+pub struct Table {
+    pub objects: ObjIds,
+}
