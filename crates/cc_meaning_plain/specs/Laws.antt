@@ -1,0 +1,30 @@
+-- The laws of plain files.
+use Rattle.std.specs.Prelude.{◌≡◌, ℕ, ◌<◌, ◌≤◌, pos, List, [], length, replicate, Some}
+use Rattle.cc_meaning.specs.declared.report.Ending.TheVariants as ending
+use Rattle.cc_meaning.specs.declared.report.Report.{Report}
+use Rattle.cc_meaning.specs.declared.report.Limits.{Limits}
+use Rattle.cc_meaning_run.specs.Local.{local}
+use Rattle.cc_meaning_plain.specs.declared.plain.Plain.{Plain}
+use Rattle.cc_meaning_plain.specs.Plain.{IsPlain}
+use Rattle.cc_meaning_plain.specs.Program.{setting_of}
+use Rattle.cc_meaning_plain.specs.Text.{text_of}
+
+-- the limits of a run for which none are named
+abbrev pub default_limits : Limits
+default_limits = record { instructions = 100000000; words = 1048576 }
+
+-- the report of a run that prints this text and returns
+pub record Prints (plain : Plain) (text : List ℕ) (report : Report) : Type 0 where
+  pub is_report : local (setting_of plain) [] default_limits ≡ Some report
+  pub out : report.out ≡ text
+  pub calls : report.calls ≡ []
+  pub ending : report.ending ≡ ending.Returned
+
+-- a plain file's run always returns, and prints what its instructions print
+abbrev pub PlainReturns : Type 0
+PlainReturns = (file : List ℕ) (plain : Plain) → IsPlain file plain →
+    (report : Report) × Prints plain (text_of (replicate plain.registers (pos 0)) plain.insns) report
+
+-- a file is plain in one way at most
+abbrev pub PlainOnce : Type 0
+PlainOnce = (file : List ℕ) (first second : Plain) → IsPlain file first → IsPlain file second → first ≡ second
