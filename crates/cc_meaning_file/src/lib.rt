@@ -1,0 +1,2 @@
+//! What the bytes of a DEX file spell, and the laws of those definitions.
+#![tactic(auto)]
