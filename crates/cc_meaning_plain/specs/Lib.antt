@@ -4,4 +4,5 @@ pub mod Code
 pub mod Plain
 pub mod Program
 pub mod Text
+pub mod Worked
 pub mod Laws

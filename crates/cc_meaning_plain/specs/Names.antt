@@ -20,27 +20,27 @@ pub record OneType (file : List ℕ) (at : ℕ) (units : List ℕ) : Type 0 wher
   pub some : at ≢ 0
   pub within : Within file at 6
   pub count : u32_at file at ≡ 1
-  pub type : TypeRow file (u16_at file (at + 4)) units
+  pub kind : TypeRow file (u16_at file (at + 4)) units
 
 -- a row of prototypes: a short form that is not looked at, the result's type, and the offset of the parameters' types
 pub record PrototypeRow (file : List ℕ) (row : ℕ) (result parameter : List ℕ) : Type 0 where
   pub row_stands : IsRow file Prototypes row
-  pub result : TypeRow file (u32_at file (row_at file Prototypes row + 4)) result
-  pub parameter : OneType file (u32_at file (row_at file Prototypes row + 8)) parameter
+  pub gives : TypeRow file (u32_at file (row_at file Prototypes row + 4)) result
+  pub takes : OneType file (u32_at file (row_at file Prototypes row + 8)) parameter
 
 -- a row of fields: class, type and name
 pub record FieldRow (file : List ℕ) (row : ℕ) (class type name : List ℕ) : Type 0 where
   pub row_stands : IsRow file Fields row
-  pub class : TypeRow file (u16_at file (row_at file Fields row)) class
-  pub type : TypeRow file (u16_at file (row_at file Fields row + 2)) type
-  pub name : TextRow file (u32_at file (row_at file Fields row + 4)) name
+  pub belongs : TypeRow file (u16_at file (row_at file Fields row)) class
+  pub holds : TypeRow file (u16_at file (row_at file Fields row + 2)) type
+  pub called : TextRow file (u32_at file (row_at file Fields row + 4)) name
 
 -- a row of methods of one parameter: class, prototype and name
 pub record MethodRow (file : List ℕ) (row : ℕ) (class result parameter name : List ℕ) : Type 0 where
   pub row_stands : IsRow file Methods row
-  pub class : TypeRow file (u16_at file (row_at file Methods row)) class
+  pub belongs : TypeRow file (u16_at file (row_at file Methods row)) class
   pub prototype : PrototypeRow file (u16_at file (row_at file Methods row + 2)) result parameter
-  pub name : TextRow file (u32_at file (row_at file Methods row + 4)) name
+  pub called : TextRow file (u32_at file (row_at file Methods row + 4)) name
 
 abbrev pub IsOutField : List ℕ → ℕ → Type 0
 IsOutField file row = FieldRow file row (codes "Ljava/lang/System;") (codes "Ljava/io/PrintStream;") (codes "out")

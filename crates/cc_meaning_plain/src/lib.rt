@@ -1,8 +1,19 @@
 //! Plain files: what the bytes of a file of one printing class spell, and the program that it is.
 #![tactic(auto)]
 
+ghost use Rattle.cc_meaning_plain.specs.Worked.{TakesSix, TakesSixWords, IsOneInvocation};
+
 mod plain;
 mod table;
 
 pub use plain::{Plain, PlainInsn, PlainInsns};
 pub use table::Table;
+
+/// The meaning of a run, at a worked example: 3 and 4 are added, and the sum is printed.
+#[tactic(auto, using(crate::proofs::Worked::takes_six, crate::proofs::Worked::takes_six_words, crate::proofs::Worked::is_one_invocation))]
+pub fn worked_example()
+    ensures instructions { TakesSix }
+    ensures words { TakesSixWords }
+    ensures invocations { IsOneInvocation }
+{
+}

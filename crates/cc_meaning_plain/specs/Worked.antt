@@ -1,0 +1,39 @@
+-- A worked example: 3 and 4 are added, and the sum is printed.
+use Rattle.std.specs.Prelude.{◌≡◌, ℕ, List, [], ◌∷◌, Some, pos}
+use Rattle.cc_meaning.specs.declared.report.StopCause.TheVariants as cause
+use Rattle.cc_meaning.specs.declared.report.Ending.{Ending}
+use Rattle.cc_meaning.specs.declared.report.Ending.TheVariants as ending
+use Rattle.cc_meaning.specs.declared.report.Report.{Report}
+use Rattle.cc_meaning.specs.declared.report.Limits.{Limits}
+use Rattle.cc_meaning_run.specs.Invocations.{Invocation}
+use Rattle.cc_meaning_run.specs.Local.{local, invocations}
+use Rattle.cc_meaning_plain.specs.declared.plain.PlainInsn.TheVariants.{SgetOut, Const4, AddInt2Addr, InvokePrintln}
+use Rattle.cc_meaning_plain.specs.declared.plain.Plain.{Plain}
+use Rattle.cc_meaning_plain.specs.Program.{setting_of}
+
+abbrev pub sum_of_two : Plain
+sum_of_two = record {
+  class = 76 ∷ 65 ∷ 59 ∷ [];
+  registers = 4;
+  insns = SgetOut 0 ∷ Const4 1 (pos 3) ∷ Const4 2 (pos 4) ∷ AddInt2Addr 1 2 ∷ InvokePrintln 0 1 ∷ [];
+}
+
+abbrev pub limits : ℕ → ℕ → Limits
+limits instructions words = record { instructions = instructions; words = words }
+
+abbrev pub report : List ℕ → Ending → ℕ → ℕ → Report
+report out ends instructions words = record { out = out; calls = []; ending = ends; instructions = instructions; words = words }
+
+-- it takes six instructions, the last of which returns
+pub record TakesSix : Type 0 where
+  pub five : local (setting_of sum_of_two) [] (limits 5 100) ≡ Some (report (55 ∷ 10 ∷ []) (ending.Stopped cause.Budget) 5 6)
+  pub six : local (setting_of sum_of_two) [] (limits 6 100) ≡ Some (report (55 ∷ 10 ∷ []) ending.Returned 6 6)
+
+-- it takes six words: two for the array of no arguments, and four for the print
+pub record TakesSixWords : Type 0 where
+  pub five : local (setting_of sum_of_two) [] (limits 100 5) ≡ Some (report [] (ending.Stopped cause.Heap) 5 2)
+  pub six : local (setting_of sum_of_two) [] (limits 100 6) ≡ Some (report (55 ∷ 10 ∷ []) ending.Returned 6 6)
+
+-- its one invocation is that of main, which records one call of `println`
+abbrev pub IsOneInvocation : Type 0
+IsOneInvocation = invocations (setting_of sum_of_two) [] (limits 100 100) ≡ record { method = 0; parent = 0; depth = 0; instructions = 6; calls = 1 ∷ [] } ∷ []
