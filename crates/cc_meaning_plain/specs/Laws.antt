@@ -1,5 +1,5 @@
 -- The laws of plain files.
-use Rattle.std.specs.Prelude.{◌≡◌, ℕ, ◌<◌, ◌≤◌, pos, List, [], length, replicate, Some}
+use Rattle.std.specs.Prelude.{◌≡◌, ℕ, ◌<◌, ◌≤◌, pos, List, [], length, replicate, Some, slice_index}
 use Rattle.cc_meaning.specs.declared.report.Ending.TheVariants as ending
 use Rattle.cc_meaning.specs.declared.report.Report.{Report}
 use Rattle.cc_meaning.specs.declared.report.Limits.{Limits}
@@ -20,9 +20,13 @@ pub record Prints (plain : Plain) (text : List ℕ) (report : Report) : Type 0 w
   pub calls : report.calls ≡ []
   pub ending : report.ending ≡ ending.Returned
 
+-- each number is a byte
+abbrev pub AreBytes : List ℕ → Type 0
+AreBytes file = (i : ℕ) → slice_index file i < 256
+
 -- a plain file's run always returns, and prints what its instructions print
 abbrev pub PlainReturns : Type 0
-PlainReturns = (file : List ℕ) (plain : Plain) → IsPlain file plain →
+PlainReturns = (file : List ℕ) (plain : Plain) → AreBytes file → IsPlain file plain →
     (report : Report) × Prints plain (text_of (replicate plain.registers (pos 0)) plain.insns) report
 
 -- a file is plain in one way at most

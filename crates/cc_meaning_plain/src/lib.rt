@@ -1,6 +1,7 @@
 //! Plain files: what the bytes of a file of one printing class spell, and the program that it is.
 #![tactic(auto)]
 
+ghost use Rattle.cc_meaning_plain.specs.Laws.{PlainReturns};
 ghost use Rattle.cc_meaning_plain.specs.Worked.{TakesSix, TakesSixWords, IsOneInvocation};
 
 mod plain;
@@ -15,5 +16,9 @@ pub fn worked_example()
     ensures instructions { TakesSix }
     ensures words { TakesSixWords }
     ensures invocations { IsOneInvocation }
-{
-}
+{}
+
+/// The run of a plain file always returns within the limits for which none are named, and prints what its instructions print.
+pub fn law_plain_returns()
+    ensures { PlainReturns }
+{}
