@@ -1,0 +1,5 @@
+pub mod Counting
+pub mod Telling
+pub mod Shelves
+pub mod Sinks
+pub mod Links
