@@ -3,3 +3,7 @@ pub mod Telling
 pub mod Shelves
 pub mod Sinks
 pub mod Links
+pub mod Failing
+pub mod FilesInMemory
+pub mod TextInMemory
+pub mod CannedBytes
