@@ -63,9 +63,9 @@ fn file_of(alloc: Global, name: &str, bytes: &[u8]) -> Result<ShelfFile, AllocEr
 
 impl MemoryShelf {
     ghost use Rattle.std.specs.Prelude.{◌≡◌, option_map};
-    ghost use Rattle.cc_outside.specs.FilesInMemory.{files_of, no_counts, IsCalm};
+    ghost use Rattle.cc_outside.specs.FilesInMemory.{files_of, no_counts};
 
-    /// A shelf of these files, of which the first of a name counts. No call of the list's numbers will do anything but fail.
+    /// A shelf of these files, of which the first of a name counts. The listed calls will fail, and no others.
     pub fn new(alloc: Global, files: Files, fails: CallList) -> MemoryShelf
         ensures { result ≡ record { files = files; fails = fails; calls = 0; counts = no_counts } }
     {

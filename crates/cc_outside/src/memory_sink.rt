@@ -31,7 +31,7 @@ impl Model for MemorySink {
 impl MemorySink {
     ghost use Rattle.std.specs.Prelude.{◌≡◌, []};
 
-    /// A sink on which nothing was written. No call of the list's numbers will do anything but fail.
+    /// A sink on which nothing was written. The listed calls will fail, and no others.
     pub fn new(alloc: Global, fails: CallList) -> MemorySink
         ensures { result ≡ record { bytes = []; fails = fails; calls = 0; faults = 0; spare = 0 } }
     {
