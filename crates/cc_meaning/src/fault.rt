@@ -6,12 +6,18 @@ use std::alloc::AllocError;
 use thiserror::Error;
 
 /// There is no memory.
-#[derive(Clone, Copy, PartialEq, Eq, Debug, Error)]
+#[derive(Clone, Copy, Debug, Error)]
 #[error("no memory")]
 pub struct Memory;
 
+impl From<AllocError> for Memory {
+    fn from(_: AllocError) -> Memory {
+        Memory
+    }
+}
+
 /// Why a number in LEB128 is none: the bytes end within it, or it is too big.
-#[derive(Clone, Copy, PartialEq, Eq, Debug, Error)]
+#[derive(Clone, Copy, Debug, Error)]
 pub enum LebFault {
     #[error("the bytes end within a number")]
     CutOff,
@@ -20,7 +26,7 @@ pub enum LebFault {
 }
 
 /// Why a text in MUTF-8 is none: the bytes end before its zero byte, a byte begins no form, or it has another number of units than stated.
-#[derive(Clone, Copy, PartialEq, Eq, Debug, Error)]
+#[derive(Clone, Copy, Debug, Error)]
 pub enum TextFault {
     #[error("the bytes end within a text")]
     CutOff,
@@ -32,8 +38,19 @@ pub enum TextFault {
     Memory,
 }
 
+impl From<AllocError> for TextFault {
+    ghost use Rattle.std.specs.Prelude.{◌≡◌};
+    ghost use Rattle.cc_meaning.specs.declared.fault.TextFault.TheVariants.{Memory};
+
+    ghost from_gives = { λ _ fault. fault ≡ Memory };
+
+    fn from(_: AllocError) -> TextFault {
+        TextFault::Memory
+    }
+}
+
 /// Why a file is no DEX file. `class` is a row of the class definitions, `method` of the methods, `string` of the strings, `at` an offset that the file states.
-#[derive(Clone, Copy, PartialEq, Eq, Debug, Error)]
+#[derive(Clone, Copy, Debug, Error)]
 pub enum DexFault {
     #[error("no DEX file of version 035")]
     NotDex035,
@@ -63,8 +80,19 @@ pub enum DexFault {
     Memory,
 }
 
+impl From<AllocError> for DexFault {
+    ghost use Rattle.std.specs.Prelude.{◌≡◌};
+    ghost use Rattle.cc_meaning.specs.declared.fault.DexFault.TheVariants.{Memory};
+
+    ghost from_gives = { λ _ fault. fault ≡ Memory };
+
+    fn from(_: AllocError) -> DexFault {
+        DexFault::Memory
+    }
+}
+
 /// Why units are no instruction: floating point, an unused opcode, an end within it, or a payload of a width that is none.
-#[derive(Clone, Copy, PartialEq, Eq, Debug, Error)]
+#[derive(Clone, Copy, Debug, Error)]
 pub enum InsnFault {
     #[error("an instruction of floating point")]
     Float,
@@ -78,29 +106,66 @@ pub enum InsnFault {
     Memory,
 }
 
+impl From<AllocError> for InsnFault {
+    ghost use Rattle.std.specs.Prelude.{◌≡◌};
+    ghost use Rattle.cc_meaning.specs.declared.fault.InsnFault.TheVariants.{Memory};
+
+    ghost from_gives = { λ _ fault. fault ≡ Memory };
+
+    fn from(_: AllocError) -> InsnFault {
+        InsnFault::Memory
+    }
+}
+
 /// Why a file's classes are no program.
 #[derive(Drop, Debug, Error)]
 pub enum ProgramFault {
     #[error("a class is above itself")]
-    HierarchyCycle { class: Units },
+    HierarchyCycle {
+        class: Units,
+    },
     #[error("a class has no superclass")]
-    NoSuperclass { class: Units },
+    NoSuperclass {
+        class: Units,
+    },
     #[error("there is no main method")]
     NoMain,
     #[error("a class is defined twice")]
-    Duplicate { class: Units },
+    Duplicate {
+        class: Units,
+    },
     #[error("a member of floating point")]
-    FloatMember { name: Units },
+    FloatMember {
+        name: Units,
+    },
     #[error("at {pc}: {fault}")]
-    Insn { method: Units, pc: u32, fault: InsnFault },
+    Insn {
+        method: Units,
+        pc: u32,
+        fault: InsnFault,
+    },
     #[error("at {pc}: a row that is none")]
-    BadIndex { method: Units, pc: u32 },
+    BadIndex {
+        method: Units,
+        pc: u32,
+    },
     #[error("no memory")]
     Memory,
 }
 
+impl From<AllocError> for ProgramFault {
+    ghost use Rattle.std.specs.Prelude.{◌≡◌};
+    ghost use Rattle.cc_meaning.specs.declared.fault.ProgramFault.TheVariants.{Memory};
+
+    ghost from_gives = { λ _ fault. fault ≡ Memory };
+
+    fn from(_: AllocError) -> ProgramFault {
+        ProgramFault::Memory
+    }
+}
+
 /// Why a program isn't well typed, by method and address.
-#[derive(Clone, Copy, PartialEq, Eq, Debug, Error)]
+#[derive(Clone, Copy, Debug, Error)]
 pub enum VerifyFault {
     #[error("method {method} has no typing at {pc}")]
     IllTyped { method: MethodIx, pc: u32 },
@@ -116,8 +181,19 @@ pub enum VerifyFault {
     Memory,
 }
 
+impl From<AllocError> for VerifyFault {
+    ghost use Rattle.std.specs.Prelude.{◌≡◌};
+    ghost use Rattle.cc_meaning.specs.declared.fault.VerifyFault.TheVariants.{Memory};
+
+    ghost from_gives = { λ _ fault. fault ≡ Memory };
+
+    fn from(_: AllocError) -> VerifyFault {
+        VerifyFault::Memory
+    }
+}
+
 /// Why a text is no script of a program. `at`, `class` and `place` count from 0.
-#[derive(Clone, Copy, PartialEq, Eq, Debug, Error)]
+#[derive(Clone, Copy, Debug, Error)]
 pub enum ScriptFault {
     #[error("no JSON")]
     NotJson,
@@ -131,8 +207,19 @@ pub enum ScriptFault {
     Memory,
 }
 
+impl From<AllocError> for ScriptFault {
+    ghost use Rattle.std.specs.Prelude.{◌≡◌};
+    ghost use Rattle.cc_meaning.specs.declared.fault.ScriptFault.TheVariants.{Memory};
+
+    ghost from_gives = { λ _ fault. fault ≡ Memory };
+
+    fn from(_: AllocError) -> ScriptFault {
+        ScriptFault::Memory
+    }
+}
+
 /// Why there are no call relations: too many methods are reached.
-#[derive(Clone, Copy, PartialEq, Eq, Debug, Error)]
+#[derive(Clone, Copy, Debug, Error)]
 pub enum CallFault {
     #[error("{count} methods are reached")]
     TooManyMethods { count: u32 },
@@ -140,8 +227,19 @@ pub enum CallFault {
     Memory,
 }
 
+impl From<AllocError> for CallFault {
+    ghost use Rattle.std.specs.Prelude.{◌≡◌};
+    ghost use Rattle.cc_meaning.specs.declared.fault.CallFault.TheVariants.{Memory};
+
+    ghost from_gives = { λ _ fault. fault ≡ Memory };
+
+    fn from(_: AllocError) -> CallFault {
+        CallFault::Memory
+    }
+}
+
 /// Why there is no profile.
-#[derive(Clone, Copy, PartialEq, Eq, Debug, Error)]
+#[derive(Clone, Copy, Debug, Error)]
 pub enum ProfileFault {
     #[error("too many invocations")]
     TooManyNodes,
@@ -161,8 +259,19 @@ pub enum ProfileFault {
     Memory,
 }
 
+impl From<AllocError> for ProfileFault {
+    ghost use Rattle.std.specs.Prelude.{◌≡◌};
+    ghost use Rattle.cc_meaning.specs.declared.fault.ProfileFault.TheVariants.{Memory};
+
+    ghost from_gives = { λ _ fault. fault ≡ Memory };
+
+    fn from(_: AllocError) -> ProfileFault {
+        ProfileFault::Memory
+    }
+}
+
 /// Why a text is no partition of a program. `place` counts from 0.
-#[derive(Clone, Copy, PartialEq, Eq, Debug, Error)]
+#[derive(Clone, Copy, Debug, Error)]
 pub enum PartitionFault {
     #[error("no JSON")]
     NotJson,
@@ -176,8 +285,19 @@ pub enum PartitionFault {
     Memory,
 }
 
+impl From<AllocError> for PartitionFault {
+    ghost use Rattle.std.specs.Prelude.{◌≡◌};
+    ghost use Rattle.cc_meaning.specs.declared.fault.PartitionFault.TheVariants.{Memory};
+
+    ghost from_gives = { λ _ fault. fault ≡ Memory };
+
+    fn from(_: AllocError) -> PartitionFault {
+        PartitionFault::Memory
+    }
+}
+
 /// A rule of legal partitions that is broken, and two methods of which it is false.
-#[derive(Clone, Copy, PartialEq, Eq, Debug, Error)]
+#[derive(Clone, Copy, Debug, Error)]
 #[error("rule {rule} is broken by methods {m1} and {m2}")]
 pub struct Broken {
     pub rule: u8,
@@ -186,7 +306,7 @@ pub struct Broken {
 }
 
 /// Why a certificate proves nothing. Leaves count from 0.
-#[derive(Clone, Copy, PartialEq, Eq, Debug, Error)]
+#[derive(Clone, Copy, Debug, Error)]
 pub enum CertFault {
     #[error("no certificate")]
     Shape,
@@ -202,8 +322,19 @@ pub enum CertFault {
     Memory,
 }
 
+impl From<AllocError> for CertFault {
+    ghost use Rattle.std.specs.Prelude.{◌≡◌};
+    ghost use Rattle.cc_meaning.specs.declared.fault.CertFault.TheVariants.{Memory};
+
+    ghost from_gives = { λ _ fault. fault ≡ Memory };
+
+    fn from(_: AllocError) -> CertFault {
+        CertFault::Memory
+    }
+}
+
 /// Why bytes are no image. `at` is an offset in them, `object` an object's number, `event` an event's place.
-#[derive(Clone, Copy, PartialEq, Eq, Debug, Error)]
+#[derive(Clone, Copy, Debug, Error)]
 pub enum ImageFault {
     #[error("the image is cut off")]
     CutOff,
@@ -223,6 +354,17 @@ pub enum ImageFault {
     Memory,
 }
 
+impl From<AllocError> for ImageFault {
+    ghost use Rattle.std.specs.Prelude.{◌≡◌};
+    ghost use Rattle.cc_meaning.specs.declared.fault.ImageFault.TheVariants.{Memory};
+
+    ghost from_gives = { λ _ fault. fault ≡ Memory };
+
+    fn from(_: AllocError) -> ImageFault {
+        ImageFault::Memory
+    }
+}
+
 /// Why bytes are no frame: a kind that is none, a payload that is too long, or a digest that isn't theirs.
 #[derive(Clone, Copy, Debug, Error)]
 pub enum FrameFault {
@@ -234,4 +376,15 @@ pub enum FrameFault {
     BadDigest { stated: [u8; 20], found: [u8; 20] },
     #[error("no memory")]
     Memory,
+}
+
+impl From<AllocError> for FrameFault {
+    ghost use Rattle.std.specs.Prelude.{◌≡◌};
+    ghost use Rattle.cc_meaning.specs.declared.fault.FrameFault.TheVariants.{Memory};
+
+    ghost from_gives = { λ _ fault. fault ≡ Memory };
+
+    fn from(_: AllocError) -> FrameFault {
+        FrameFault::Memory
+    }
 }

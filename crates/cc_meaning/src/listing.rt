@@ -8,8 +8,16 @@ use cc_list::List;
 pub enum RowName {
     Text(Units),
     Class(Units),
-    Field { class: Units, name: Units, kind: Units },
-    Method { class: Units, name: Units, proto: Units },
+    Field {
+        class: Units,
+        name: Units,
+        kind: Units,
+    },
+    Method {
+        class: Units,
+        name: Units,
+        proto: Units,
+    },
 }
 
 /// A place of the units where a row's number belongs.

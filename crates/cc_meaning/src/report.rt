@@ -9,8 +9,14 @@ use cc_list::List;
 pub enum StopCause {
     Budget,
     Heap,
-    ScriptEnd { class: ClassIx },
-    ScriptOther { class: ClassIx, wanted: MethodIx, found: MethodIx },
+    ScriptEnd {
+        class: ClassIx,
+    },
+    ScriptOther {
+        class: ClassIx,
+        wanted: MethodIx,
+        found: MethodIx,
+    },
 }
 
 /// How a call ended.
@@ -25,7 +31,10 @@ pub enum CallEnd {
 #[derive(Drop)]
 pub enum Ending {
     Returned,
-    Thrown { class: ClassIx, message: Option<Units> },
+    Thrown {
+        class: ClassIx,
+        message: Option<Units>,
+    },
     Stopped(StopCause),
 }
 
@@ -58,7 +67,11 @@ pub enum Answer {
 #[derive(Drop)]
 pub enum Event {
     Print(Units),
-    Call { method: MethodIx, args: Args, answer: Answer },
+    Call {
+        method: MethodIx,
+        args: Args,
+        answer: Answer,
+    },
 }
 
 /// Events, in the order in which they came.
