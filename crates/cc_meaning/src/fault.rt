@@ -5,7 +5,7 @@ use crate::report::StopCause;
 use std::alloc::AllocError;
 use thiserror::Error;
 
-/// There is no memory.
+/// There is no memory. Nothing else is said: an answer that the allocator decides.
 #[derive(Clone, Copy, Debug, Error)]
 #[error("no memory")]
 pub struct Memory;
@@ -16,7 +16,8 @@ impl From<AllocError> for Memory {
     }
 }
 
-/// Why a number in LEB128 is none: the bytes end within it, or it is too big.
+/// Why bytes are no number in LEB128: they end within it, or it takes more than five bytes or 32 bits.
+/// Source: Dalvik Executable format, section LEB128.
 #[derive(Clone, Copy, Debug, Error)]
 pub enum LebFault {
     #[error("the bytes end within a number")]
@@ -25,7 +26,9 @@ pub enum LebFault {
     TooBig,
 }
 
-/// Why a text in MUTF-8 is none: the bytes end before its zero byte, a byte begins no form, or it has another number of units than stated.
+/// Why bytes are no text in MUTF-8: they end before its zero byte, a byte begins no form, or the text has another number of units than stated. `at` is an
+/// offset in bytes.
+/// Source: Dalvik Executable format, section MUTF-8 (Modified UTF-8) Encoding.
 #[derive(Clone, Copy, Debug, Error)]
 pub enum TextFault {
     #[error("the bytes end within a text")]
@@ -49,7 +52,8 @@ impl From<AllocError> for TextFault {
     }
 }
 
-/// Why a file is no DEX file. `class` is a row of the class definitions, `method` of the methods, `string` of the strings, `at` an offset that the file states.
+/// Why a file is no DEX file of version 035. `class` is a row of the class definitions, `method` of the methods, `string` of the strings, `table` the table in
+/// which `row` stands, and `at` an offset in bytes that the file states.
 #[derive(Clone, Copy, Debug, Error)]
 pub enum DexFault {
     #[error("no DEX file of version 035")]
@@ -91,7 +95,7 @@ impl From<AllocError> for DexFault {
     }
 }
 
-/// Why units are no instruction: floating point, an unused opcode, an end within it, or a payload of a width that is none.
+/// Why units are no instruction: one of floating point, an unused opcode or form, an end within it, or a payload whose elements have a width that is none.
 #[derive(Clone, Copy, Debug, Error)]
 pub enum InsnFault {
     #[error("an instruction of floating point")]
@@ -117,7 +121,7 @@ impl From<AllocError> for InsnFault {
     }
 }
 
-/// Why a file's classes are no program.
+/// Why a file's classes are no program. The names are those printed: of a class, a member or a method; `pc` is an address in units of 16 bits.
 #[derive(Drop, Debug, Error)]
 pub enum ProgramFault {
     #[error("a class is above itself")]
@@ -164,7 +168,18 @@ impl From<AllocError> for ProgramFault {
     }
 }
 
-/// Why a program isn't well typed, by method and address.
+impl From<Memory> for ProgramFault {
+    ghost use Rattle.std.specs.Prelude.{◌≡◌};
+    ghost use Rattle.cc_meaning.specs.declared.fault.ProgramFault.TheVariants as faults;
+
+    ghost from_gives = { λ _ fault. fault ≡ faults.Memory };
+
+    fn from(_: Memory) -> ProgramFault {
+        ProgramFault::Memory
+    }
+}
+
+/// Why a program isn't well typed, by method and by address in units of 16 bits.
 #[derive(Clone, Copy, Debug, Error)]
 pub enum VerifyFault {
     #[error("method {method} has no typing at {pc}")]
@@ -188,6 +203,17 @@ impl From<AllocError> for VerifyFault {
     ghost from_gives = { λ _ fault. fault ≡ Memory };
 
     fn from(_: AllocError) -> VerifyFault {
+        VerifyFault::Memory
+    }
+}
+
+impl From<Memory> for VerifyFault {
+    ghost use Rattle.std.specs.Prelude.{◌≡◌};
+    ghost use Rattle.cc_meaning.specs.declared.fault.VerifyFault.TheVariants as faults;
+
+    ghost from_gives = { λ _ fault. fault ≡ faults.Memory };
+
+    fn from(_: Memory) -> VerifyFault {
         VerifyFault::Memory
     }
 }
@@ -218,6 +244,17 @@ impl From<AllocError> for ScriptFault {
     }
 }
 
+impl From<Memory> for ScriptFault {
+    ghost use Rattle.std.specs.Prelude.{◌≡◌};
+    ghost use Rattle.cc_meaning.specs.declared.fault.ScriptFault.TheVariants as faults;
+
+    ghost from_gives = { λ _ fault. fault ≡ faults.Memory };
+
+    fn from(_: Memory) -> ScriptFault {
+        ScriptFault::Memory
+    }
+}
+
 /// Why there are no call relations: too many methods are reached.
 #[derive(Clone, Copy, Debug, Error)]
 pub enum CallFault {
@@ -238,7 +275,7 @@ impl From<AllocError> for CallFault {
     }
 }
 
-/// Why there is no profile.
+/// Why there is no profile. `at` is the place of an execution, and `node` that of an invocation through all executions, both counted from 0.
 #[derive(Clone, Copy, Debug, Error)]
 pub enum ProfileFault {
     #[error("too many invocations")]
@@ -270,6 +307,17 @@ impl From<AllocError> for ProfileFault {
     }
 }
 
+impl From<Memory> for ProfileFault {
+    ghost use Rattle.std.specs.Prelude.{◌≡◌};
+    ghost use Rattle.cc_meaning.specs.declared.fault.ProfileFault.TheVariants as faults;
+
+    ghost from_gives = { λ _ fault. fault ≡ faults.Memory };
+
+    fn from(_: Memory) -> ProfileFault {
+        ProfileFault::Memory
+    }
+}
+
 /// Why a text is no partition of a program. `place` counts from 0.
 #[derive(Clone, Copy, Debug, Error)]
 pub enum PartitionFault {
@@ -292,6 +340,17 @@ impl From<AllocError> for PartitionFault {
     ghost from_gives = { λ _ fault. fault ≡ Memory };
 
     fn from(_: AllocError) -> PartitionFault {
+        PartitionFault::Memory
+    }
+}
+
+impl From<Memory> for PartitionFault {
+    ghost use Rattle.std.specs.Prelude.{◌≡◌};
+    ghost use Rattle.cc_meaning.specs.declared.fault.PartitionFault.TheVariants as faults;
+
+    ghost from_gives = { λ _ fault. fault ≡ faults.Memory };
+
+    fn from(_: Memory) -> PartitionFault {
         PartitionFault::Memory
     }
 }
@@ -361,6 +420,17 @@ impl From<AllocError> for ImageFault {
     ghost from_gives = { λ _ fault. fault ≡ Memory };
 
     fn from(_: AllocError) -> ImageFault {
+        ImageFault::Memory
+    }
+}
+
+impl From<Memory> for ImageFault {
+    ghost use Rattle.std.specs.Prelude.{◌≡◌};
+    ghost use Rattle.cc_meaning.specs.declared.fault.ImageFault.TheVariants as faults;
+
+    ghost from_gives = { λ _ fault. fault ≡ faults.Memory };
+
+    fn from(_: Memory) -> ImageFault {
         ImageFault::Memory
     }
 }

@@ -16,11 +16,11 @@ pub enum Happening {
     CloneStops,
 }
 
-/// What befalls a link, in order.
+/// What befalls a link, in order, the next first.
 pub type Happenings = List<Happening>;
 
-/// Why no more methods migrate: dialing failed, a call of the link failed, the link ended, so many calls in a row moved nothing, bytes were no frame,
-/// a frame of this kind wasn't awaited, an image doesn't fit, or the clone refused with this status.
+/// Why no more methods migrate: dialing failed, a call of the link failed, the link ended, so many calls within one frame moved nothing, bytes were no
+/// frame, a frame of this kind wasn't awaited, an image doesn't fit, or the clone refused with this status.
 #[derive(Clone, Copy)]
 pub enum LinkEnd {
     DialFailed,
