@@ -3,181 +3,421 @@
 use crate::lists::{ClassIx, MethodIx, Units};
 use crate::report::StopCause;
 use std::alloc::AllocError;
+use std::fmt;
 use thiserror::Error;
 
-/// There is no memory.
-#[derive(Clone, Copy, PartialEq, Eq, Debug, Error)]
+/// There is no memory. Nothing else is said: an answer that the allocator decides.
+#[derive(Clone, Copy, Debug, Error)]
 #[error("no memory")]
 pub struct Memory;
 
-/// Why a number in LEB128 is none: the bytes end within it, or it is too big.
-#[derive(Clone, Copy, PartialEq, Eq, Debug, Error)]
+impl From<AllocError> for Memory {
+    fn from(_: AllocError) -> Memory {
+        Memory
+    }
+}
+
+/// Why bytes are no number in LEB128: they end within it, or it takes more than five bytes or 32 bits.
+/// Source: Dalvik Executable format, section LEB128.
+#[derive(Clone, Copy, Debug, Error)]
 pub enum LebFault {
-    #[error("the bytes end within a number")]
+    /// The bytes end within the number.
     CutOff,
-    #[error("a number is too big")]
+    /// The number takes more than five bytes or 32 bits.
     TooBig,
 }
 
-/// Why a text in MUTF-8 is none: the bytes end before its zero byte, a byte begins no form, or it has another number of units than stated.
-#[derive(Clone, Copy, PartialEq, Eq, Debug, Error)]
+impl fmt::Display for LebFault {
+    fn fmt<W: fmt::Write>(&self, f: &mut fmt::Formatter<W>) -> fmt::Result {
+        write!(f, "no number in LEB128: {self:?}")
+    }
+}
+
+/// Why bytes are no text in MUTF-8: they end before its zero byte, a byte begins no form, or the text has another number of units than stated. `at` is an
+/// offset in bytes.
+/// Source: Dalvik Executable format, section MUTF-8 (Modified UTF-8) Encoding.
+#[derive(Clone, Copy, Debug, Error)]
 pub enum TextFault {
-    #[error("the bytes end within a text")]
+    /// The bytes end before the text's zero byte.
     CutOff,
-    #[error("no form begins at byte {at}")]
+    /// No form begins at byte `at`.
     BadForm { at: usize },
-    #[error("a text has another number of units")]
+    /// The text has another number of units than stated.
     BadCount,
-    #[error("no memory")]
+    /// There is no memory.
     Memory,
 }
 
-/// Why a file is no DEX file. `class` is a row of the class definitions, `method` of the methods, `string` of the strings, `at` an offset that the file states.
-#[derive(Clone, Copy, PartialEq, Eq, Debug, Error)]
+impl fmt::Display for TextFault {
+    fn fmt<W: fmt::Write>(&self, f: &mut fmt::Formatter<W>) -> fmt::Result {
+        write!(f, "no text in MUTF-8: {self:?}")
+    }
+}
+
+impl From<AllocError> for TextFault {
+    ghost use Rattle.std.specs.Prelude.{◌≡◌};
+    ghost use Rattle.cc_meaning.specs.declared.fault.TextFault.TheVariants.{Memory};
+
+    ghost from_gives = { λ _ fault. fault ≡ Memory };
+
+    fn from(_: AllocError) -> TextFault {
+        TextFault::Memory
+    }
+}
+
+/// Why a file is no DEX file of version 035. `class` is a row of the class definitions, `method` of the methods, `string` of the strings, `table` the table in
+/// which `row` stands, and `at` an offset in bytes that the file states.
+#[derive(Clone, Copy, Debug, Error)]
 pub enum DexFault {
-    #[error("no DEX file of version 035")]
+    /// The file doesn't begin as one of version 035.
     NotDex035,
-    #[error("a size that the header states is wrong")]
+    /// The size that the header states isn't the file's.
     BadSize,
-    #[error("the checksum is {found}, and {stated} is stated")]
+    /// The Adler-32 sum of the file is `found`, and the header states `stated`.
     BadChecksum { stated: u32, found: u32 },
-    #[error("the signature is wrong")]
+    /// The SHA-1 signature isn't that of the file.
     BadSignature,
-    #[error("an item at {at} leaves the file")]
+    /// A table or an item at the stated offset `at` leaves the file.
     OutOfFile { at: u32 },
-    #[error("row {row} of table {table} names no row")]
+    /// Row `row` of table `table` names a row that isn't there.
     BadIndex { table: u32, row: u32 },
-    #[error("string {string} is malformed")]
+    /// String `string` is no text in MUTF-8.
     BadText { string: u32 },
-    #[error("the file is too large")]
+    /// The file is too large to be read.
     TooLarge,
-    #[error("the members of class {class} are malformed")]
+    /// The members of class `class` are malformed.
     BadClassData { class: u32 },
-    #[error("the code of method {method} is malformed")]
+    /// The code of method `method` is malformed.
     BadCode { method: u32 },
-    #[error("a try of method {method} is malformed")]
+    /// A try of method `method` is malformed.
     BadTry { method: u32 },
-    #[error("the values of class {class} are malformed")]
+    /// The values of class `class` are malformed.
     BadValue { class: u32 },
-    #[error("no memory")]
+    /// There is no memory.
     Memory,
 }
 
-/// Why units are no instruction: floating point, an unused opcode, an end within it, or a payload of a width that is none.
-#[derive(Clone, Copy, PartialEq, Eq, Debug, Error)]
+impl fmt::Display for DexFault {
+    fn fmt<W: fmt::Write>(&self, f: &mut fmt::Formatter<W>) -> fmt::Result {
+        write!(f, "no DEX file: {self:?}")
+    }
+}
+
+impl From<AllocError> for DexFault {
+    ghost use Rattle.std.specs.Prelude.{◌≡◌};
+    ghost use Rattle.cc_meaning.specs.declared.fault.DexFault.TheVariants.{Memory};
+
+    ghost from_gives = { λ _ fault. fault ≡ Memory };
+
+    fn from(_: AllocError) -> DexFault {
+        DexFault::Memory
+    }
+}
+
+/// Why units are no instruction: one of floating point, an unused opcode or form, an end within it, or a payload whose elements have a width that is none.
+#[derive(Clone, Copy, Debug, Error)]
 pub enum InsnFault {
-    #[error("an instruction of floating point")]
+    /// An instruction of floating point.
     Float,
-    #[error("an unused opcode")]
+    /// An unused opcode, or a form of too many arguments.
     Unused,
-    #[error("the units end within an instruction")]
+    /// The units end within the instruction or payload.
     CutOff,
-    #[error("a payload of a wrong width")]
+    /// A payload of elements that are not 1, 2, 4 or 8 bytes wide.
     BadPayload,
-    #[error("no memory")]
+    /// There is no memory.
     Memory,
 }
 
-/// Why a file's classes are no program.
+impl fmt::Display for InsnFault {
+    fn fmt<W: fmt::Write>(&self, f: &mut fmt::Formatter<W>) -> fmt::Result {
+        write!(f, "no instruction: {self:?}")
+    }
+}
+
+impl From<AllocError> for InsnFault {
+    ghost use Rattle.std.specs.Prelude.{◌≡◌};
+    ghost use Rattle.cc_meaning.specs.declared.fault.InsnFault.TheVariants.{Memory};
+
+    ghost from_gives = { λ _ fault. fault ≡ Memory };
+
+    fn from(_: AllocError) -> InsnFault {
+        InsnFault::Memory
+    }
+}
+
+/// Why a file's classes are no program. The names are those printed: of a class, a member or a method; `pc` is an address in units of 16 bits.
 #[derive(Drop, Debug, Error)]
 pub enum ProgramFault {
-    #[error("a class is above itself")]
-    HierarchyCycle { class: Units },
-    #[error("a class has no superclass")]
-    NoSuperclass { class: Units },
-    #[error("there is no main method")]
+    /// The class is above itself.
+    HierarchyCycle {
+        class: Units,
+    },
+    /// The class has no superclass, or one that can't be one.
+    NoSuperclass {
+        class: Units,
+    },
+    /// No class has the main method that is asked for.
     NoMain,
-    #[error("a class is defined twice")]
-    Duplicate { class: Units },
-    #[error("a member of floating point")]
-    FloatMember { name: Units },
-    #[error("at {pc}: {fault}")]
-    Insn { method: Units, pc: u32, fault: InsnFault },
-    #[error("at {pc}: a row that is none")]
-    BadIndex { method: Units, pc: u32 },
-    #[error("no memory")]
+    /// The class, or a member of it, is defined twice, or is built in.
+    Duplicate {
+        class: Units,
+    },
+    /// A member or a type of floating point, by its name.
+    FloatMember {
+        name: Units,
+    },
+    /// The units at `pc` of the method are no instruction.
+    Insn {
+        method: Units,
+        pc: u32,
+        fault: InsnFault,
+    },
+    /// The instruction at `pc` of the method names a row that isn't there.
+    BadIndex {
+        method: Units,
+        pc: u32,
+    },
+    /// There is no memory.
     Memory,
 }
 
-/// Why a program isn't well typed, by method and address.
-#[derive(Clone, Copy, PartialEq, Eq, Debug, Error)]
+impl fmt::Display for ProgramFault {
+    fn fmt<W: fmt::Write>(&self, f: &mut fmt::Formatter<W>) -> fmt::Result {
+        write!(f, "no program: {self:?}")
+    }
+}
+
+impl From<AllocError> for ProgramFault {
+    ghost use Rattle.std.specs.Prelude.{◌≡◌};
+    ghost use Rattle.cc_meaning.specs.declared.fault.ProgramFault.TheVariants.{Memory};
+
+    ghost from_gives = { λ _ fault. fault ≡ Memory };
+
+    fn from(_: AllocError) -> ProgramFault {
+        ProgramFault::Memory
+    }
+}
+
+impl From<Memory> for ProgramFault {
+    ghost use Rattle.std.specs.Prelude.{◌≡◌};
+    ghost use Rattle.cc_meaning.specs.declared.fault.ProgramFault.TheVariants as faults;
+
+    ghost from_gives = { λ _ fault. fault ≡ faults.Memory };
+
+    fn from(_: Memory) -> ProgramFault {
+        ProgramFault::Memory
+    }
+}
+
+/// Why a program isn't well typed, by method and by address in units of 16 bits.
+#[derive(Clone, Copy, Debug, Error)]
 pub enum VerifyFault {
-    #[error("method {method} has no typing at {pc}")]
+    /// The instruction at `pc` doesn't fit what its registers hold.
     IllTyped { method: MethodIx, pc: u32 },
-    #[error("method {method} has a bad target at {pc}")]
+    /// The branch or the handler at `pc` leads to no instruction, or to no payload of its kind.
     BadTarget { method: MethodIx, pc: u32 },
-    #[error("method {method} runs past its end")]
+    /// The method can run past its end or into a payload.
     FallsOff { method: MethodIx },
-    #[error("method {method} is too wide")]
+    /// The method's units times its registers are too many.
     TooWide { method: MethodIx },
-    #[error("method {method} names an unknown member at {pc}")]
+    /// The instruction at `pc` names a member that isn't known, or that can't be used so.
     UnknownMember { method: MethodIx, pc: u32 },
-    #[error("no memory")]
+    /// There is no memory.
     Memory,
+}
+
+impl fmt::Display for VerifyFault {
+    fn fmt<W: fmt::Write>(&self, f: &mut fmt::Formatter<W>) -> fmt::Result {
+        write!(f, "not well typed: {self:?}")
+    }
+}
+
+impl From<AllocError> for VerifyFault {
+    ghost use Rattle.std.specs.Prelude.{◌≡◌};
+    ghost use Rattle.cc_meaning.specs.declared.fault.VerifyFault.TheVariants.{Memory};
+
+    ghost from_gives = { λ _ fault. fault ≡ Memory };
+
+    fn from(_: AllocError) -> VerifyFault {
+        VerifyFault::Memory
+    }
+}
+
+impl From<Memory> for VerifyFault {
+    ghost use Rattle.std.specs.Prelude.{◌≡◌};
+    ghost use Rattle.cc_meaning.specs.declared.fault.VerifyFault.TheVariants as faults;
+
+    ghost from_gives = { λ _ fault. fault ≡ faults.Memory };
+
+    fn from(_: Memory) -> VerifyFault {
+        VerifyFault::Memory
+    }
 }
 
 /// Why a text is no script of a program. `at`, `class` and `place` count from 0.
-#[derive(Clone, Copy, PartialEq, Eq, Debug, Error)]
+#[derive(Clone, Copy, Debug, Error)]
 pub enum ScriptFault {
-    #[error("no JSON")]
+    /// The text is no JSON.
     NotJson,
-    #[error("class {at} is out of shape")]
+    /// Class `at` is out of shape, and 0 stands for the whole text too.
     BadShape { at: u32 },
-    #[error("class {class} has no method {place}")]
+    /// Class `class` has no such outside or native method as its `place`-th.
     UnknownMethod { class: u32, place: u32 },
-    #[error("answer {place} of class {class} doesn't fit")]
+    /// The answer at `place` of class `class` doesn't fit its method.
     BadAnswer { class: u32, place: u32 },
-    #[error("no memory")]
+    /// There is no memory.
     Memory,
+}
+
+impl fmt::Display for ScriptFault {
+    fn fmt<W: fmt::Write>(&self, f: &mut fmt::Formatter<W>) -> fmt::Result {
+        write!(f, "no script: {self:?}")
+    }
+}
+
+impl From<AllocError> for ScriptFault {
+    ghost use Rattle.std.specs.Prelude.{◌≡◌};
+    ghost use Rattle.cc_meaning.specs.declared.fault.ScriptFault.TheVariants.{Memory};
+
+    ghost from_gives = { λ _ fault. fault ≡ Memory };
+
+    fn from(_: AllocError) -> ScriptFault {
+        ScriptFault::Memory
+    }
+}
+
+impl From<Memory> for ScriptFault {
+    ghost use Rattle.std.specs.Prelude.{◌≡◌};
+    ghost use Rattle.cc_meaning.specs.declared.fault.ScriptFault.TheVariants as faults;
+
+    ghost from_gives = { λ _ fault. fault ≡ faults.Memory };
+
+    fn from(_: Memory) -> ScriptFault {
+        ScriptFault::Memory
+    }
 }
 
 /// Why there are no call relations: too many methods are reached.
-#[derive(Clone, Copy, PartialEq, Eq, Debug, Error)]
+#[derive(Clone, Copy, Debug, Error)]
 pub enum CallFault {
-    #[error("{count} methods are reached")]
+    /// So many methods are reached.
     TooManyMethods { count: u32 },
-    #[error("no memory")]
+    /// There is no memory.
     Memory,
 }
 
-/// Why there is no profile.
-#[derive(Clone, Copy, PartialEq, Eq, Debug, Error)]
+impl fmt::Display for CallFault {
+    fn fmt<W: fmt::Write>(&self, f: &mut fmt::Formatter<W>) -> fmt::Result {
+        write!(f, "no call relations: {self:?}")
+    }
+}
+
+impl From<AllocError> for CallFault {
+    ghost use Rattle.std.specs.Prelude.{◌≡◌};
+    ghost use Rattle.cc_meaning.specs.declared.fault.CallFault.TheVariants.{Memory};
+
+    ghost from_gives = { λ _ fault. fault ≡ Memory };
+
+    fn from(_: AllocError) -> CallFault {
+        CallFault::Memory
+    }
+}
+
+/// Why there is no profile. `at` is the place of an execution, and `node` that of an invocation through all executions, both counted from 0.
+#[derive(Clone, Copy, Debug, Error)]
 pub enum ProfileFault {
-    #[error("too many invocations")]
+    /// There are too many invocations.
     TooManyNodes,
-    #[error("the run stopped")]
+    /// The run stopped.
     Stopped(StopCause),
-    #[error("no JSON")]
+    /// The text is no JSON.
     NotJson,
-    #[error("execution {at} is out of shape")]
+    /// Execution `at` is out of shape, and 0 stands for the whole text too.
     BadShape { at: u32 },
-    #[error("the total of node {node} is below that of its children")]
+    /// The total of invocation `node` is below that of its children.
     BadTotal { node: u32 },
-    #[error("too many executions")]
+    /// There are too many executions, or too many invocations in them.
     TooManyExecutions,
-    #[error("no weights")]
+    /// The text states no weights.
     BadWeights,
-    #[error("no memory")]
+    /// There is no memory.
     Memory,
+}
+
+impl fmt::Display for ProfileFault {
+    fn fmt<W: fmt::Write>(&self, f: &mut fmt::Formatter<W>) -> fmt::Result {
+        write!(f, "no profile: {self:?}")
+    }
+}
+
+impl From<AllocError> for ProfileFault {
+    ghost use Rattle.std.specs.Prelude.{◌≡◌};
+    ghost use Rattle.cc_meaning.specs.declared.fault.ProfileFault.TheVariants.{Memory};
+
+    ghost from_gives = { λ _ fault. fault ≡ Memory };
+
+    fn from(_: AllocError) -> ProfileFault {
+        ProfileFault::Memory
+    }
+}
+
+impl From<Memory> for ProfileFault {
+    ghost use Rattle.std.specs.Prelude.{◌≡◌};
+    ghost use Rattle.cc_meaning.specs.declared.fault.ProfileFault.TheVariants as faults;
+
+    ghost from_gives = { λ _ fault. fault ≡ faults.Memory };
+
+    fn from(_: Memory) -> ProfileFault {
+        ProfileFault::Memory
+    }
 }
 
 /// Why a text is no partition of a program. `place` counts from 0.
-#[derive(Clone, Copy, PartialEq, Eq, Debug, Error)]
+#[derive(Clone, Copy, Debug, Error)]
 pub enum PartitionFault {
-    #[error("no JSON")]
+    /// The text is no JSON.
     NotJson,
-    #[error("out of shape")]
+    /// The text isn't a list of names, or one stands twice.
     BadShape,
-    #[error("no method {place}")]
+    /// The program has no method of the name at `place`.
     UnknownMethod { place: u32 },
-    #[error("method {place} can't move")]
+    /// The method of the name at `place` can't be moved.
     NotMovable { place: u32 },
-    #[error("no memory")]
+    /// There is no memory.
     Memory,
 }
 
+impl fmt::Display for PartitionFault {
+    fn fmt<W: fmt::Write>(&self, f: &mut fmt::Formatter<W>) -> fmt::Result {
+        write!(f, "no partition: {self:?}")
+    }
+}
+
+impl From<AllocError> for PartitionFault {
+    ghost use Rattle.std.specs.Prelude.{◌≡◌};
+    ghost use Rattle.cc_meaning.specs.declared.fault.PartitionFault.TheVariants.{Memory};
+
+    ghost from_gives = { λ _ fault. fault ≡ Memory };
+
+    fn from(_: AllocError) -> PartitionFault {
+        PartitionFault::Memory
+    }
+}
+
+impl From<Memory> for PartitionFault {
+    ghost use Rattle.std.specs.Prelude.{◌≡◌};
+    ghost use Rattle.cc_meaning.specs.declared.fault.PartitionFault.TheVariants as faults;
+
+    ghost from_gives = { λ _ fault. fault ≡ faults.Memory };
+
+    fn from(_: Memory) -> PartitionFault {
+        PartitionFault::Memory
+    }
+}
+
 /// A rule of legal partitions that is broken, and two methods of which it is false.
-#[derive(Clone, Copy, PartialEq, Eq, Debug, Error)]
+#[derive(Clone, Copy, Debug, Error)]
 #[error("rule {rule} is broken by methods {m1} and {m2}")]
 pub struct Broken {
     pub rule: u8,
@@ -186,52 +426,114 @@ pub struct Broken {
 }
 
 /// Why a certificate proves nothing. Leaves count from 0.
-#[derive(Clone, Copy, PartialEq, Eq, Debug, Error)]
+#[derive(Clone, Copy, Debug, Error)]
 pub enum CertFault {
-    #[error("no certificate")]
+    /// It is no whole tree over the candidates.
     Shape,
-    #[error("leaf {leaf} isn't broken")]
+    /// Leaf `leaf` is said to break a rule, and breaks none.
     NotIllegal { leaf: u32 },
-    #[error("the bound of leaf {leaf} is {bound}, and {claimed} is claimed")]
+    /// The bound of leaf `leaf` is `bound`, below the cost `claimed`.
     BoundTooLow { leaf: u32, bound: u64, claimed: u64 },
-    #[error("the cost is {found}, and {stated} is stated")]
+    /// The partition costs `found`, and `stated` is stated.
     CostOther { stated: u64, found: u64 },
-    #[error("{0}")]
+    /// The partition breaks a rule.
     Illegal(Broken),
-    #[error("no memory")]
+    /// There is no memory.
     Memory,
 }
 
+impl fmt::Display for CertFault {
+    fn fmt<W: fmt::Write>(&self, f: &mut fmt::Formatter<W>) -> fmt::Result {
+        write!(f, "no proof: {self:?}")
+    }
+}
+
+impl From<AllocError> for CertFault {
+    ghost use Rattle.std.specs.Prelude.{◌≡◌};
+    ghost use Rattle.cc_meaning.specs.declared.fault.CertFault.TheVariants.{Memory};
+
+    ghost from_gives = { λ _ fault. fault ≡ Memory };
+
+    fn from(_: AllocError) -> CertFault {
+        CertFault::Memory
+    }
+}
+
 /// Why bytes are no image. `at` is an offset in them, `object` an object's number, `event` an event's place.
-#[derive(Clone, Copy, PartialEq, Eq, Debug, Error)]
+#[derive(Clone, Copy, Debug, Error)]
 pub enum ImageFault {
-    #[error("the image is cut off")]
+    /// The bytes end within the image.
     CutOff,
-    #[error("bytes follow the image")]
+    /// Bytes follow the image.
     Trailing,
-    #[error("a number that isn't allowed at {at}")]
+    /// The number at `at` isn't allowed there.
     BadKind { at: u32 },
-    #[error("a reference that isn't allowed at {at}")]
+    /// The reference at `at` isn't allowed there.
     BadRef { at: u32 },
-    #[error("object {object} doesn't fit")]
+    /// Object `object` doesn't fit a place that names it.
     Unfit { object: u32 },
-    #[error("a counter is wrong")]
+    /// A counter is out of range, or says less than was spent.
     BadCounter,
-    #[error("event {event} has no answer")]
+    /// The script has no answer for event `event`.
     Unanswered { event: u32 },
-    #[error("no memory")]
+    /// There is no memory.
     Memory,
+}
+
+impl fmt::Display for ImageFault {
+    fn fmt<W: fmt::Write>(&self, f: &mut fmt::Formatter<W>) -> fmt::Result {
+        write!(f, "no image: {self:?}")
+    }
+}
+
+impl From<AllocError> for ImageFault {
+    ghost use Rattle.std.specs.Prelude.{◌≡◌};
+    ghost use Rattle.cc_meaning.specs.declared.fault.ImageFault.TheVariants.{Memory};
+
+    ghost from_gives = { λ _ fault. fault ≡ Memory };
+
+    fn from(_: AllocError) -> ImageFault {
+        ImageFault::Memory
+    }
+}
+
+impl From<Memory> for ImageFault {
+    ghost use Rattle.std.specs.Prelude.{◌≡◌};
+    ghost use Rattle.cc_meaning.specs.declared.fault.ImageFault.TheVariants as faults;
+
+    ghost from_gives = { λ _ fault. fault ≡ faults.Memory };
+
+    fn from(_: Memory) -> ImageFault {
+        ImageFault::Memory
+    }
 }
 
 /// Why bytes are no frame: a kind that is none, a payload that is too long, or a digest that isn't theirs.
 #[derive(Clone, Copy, Debug, Error)]
 pub enum FrameFault {
-    #[error("no kind of frame")]
+    /// The first byte is no kind of frame.
     BadKind,
-    #[error("a frame that is too long")]
+    /// The payload is stated as longer than is allowed.
     TooLong,
-    #[error("a digest that isn't that of the frame")]
+    /// The SHA-1 digest of the frame is `found`, and `stated` is stated.
     BadDigest { stated: [u8; 20], found: [u8; 20] },
-    #[error("no memory")]
+    /// There is no memory.
     Memory,
+}
+
+impl fmt::Display for FrameFault {
+    fn fmt<W: fmt::Write>(&self, f: &mut fmt::Formatter<W>) -> fmt::Result {
+        write!(f, "no frame: {self:?}")
+    }
+}
+
+impl From<AllocError> for FrameFault {
+    ghost use Rattle.std.specs.Prelude.{◌≡◌};
+    ghost use Rattle.cc_meaning.specs.declared.fault.FrameFault.TheVariants.{Memory};
+
+    ghost from_gives = { λ _ fault. fault ≡ Memory };
+
+    fn from(_: AllocError) -> FrameFault {
+        FrameFault::Memory
+    }
 }

@@ -6,7 +6,7 @@ use crate::report::Limits;
 use crate::text::Text;
 use cc_list::List;
 
-/// A name, and the bytes under it.
+/// A file: its name, and its bytes.
 #[derive(Drop)]
 pub struct ShelfFile {
     pub name: Text,
@@ -17,7 +17,7 @@ pub struct ShelfFile {
 pub type Files = List<ShelfFile>;
 
 /// All that a device is given: the file, its script, the main class where one is named, the arguments, the limits, the clone's place,
-/// and how many calls in a row may move nothing.
+/// and how many calls within the sending or the awaiting of one frame may move nothing.
 #[derive(Drop)]
 pub struct Job {
     pub file: Bytes,
@@ -29,7 +29,8 @@ pub struct Job {
     pub patience: u32,
 }
 
-/// The tables of a DEX file.
+/// The tables of a DEX file, each in its order.
+/// Source: Dalvik Executable format, section File layout.
 #[derive(Drop)]
 pub struct Ids {
     pub texts: Texts,
@@ -40,7 +41,8 @@ pub struct Ids {
     pub classes: ClassRows,
 }
 
-/// A row of prototypes: the result's type and those of the parameters.
+/// A row of prototypes: the rows of the result's type and of those of the parameters.
+/// Source: Dalvik Executable format, section proto_id_item.
 #[derive(Drop)]
 pub struct ProtoRow {
     pub result: u32,
@@ -50,7 +52,8 @@ pub struct ProtoRow {
 /// The table of prototypes.
 pub type ProtoRows = List<ProtoRow>;
 
-/// A row of fields: class, type and name.
+/// A row of fields: the rows of its class, its type and its name.
+/// Source: Dalvik Executable format, section field_id_item.
 #[derive(Clone, Copy, PartialEq, Eq)]
 pub struct FieldRow {
     pub class: u32,
@@ -61,7 +64,8 @@ pub struct FieldRow {
 /// The table of fields.
 pub type FieldRows = List<FieldRow>;
 
-/// A row of methods: class, prototype and name.
+/// A row of methods: the rows of its class, its prototype and its name.
+/// Source: Dalvik Executable format, section method_id_item.
 #[derive(Clone, Copy, PartialEq, Eq)]
 pub struct MethodRow {
     pub class: u32,
@@ -72,7 +76,9 @@ pub struct MethodRow {
 /// The table of methods.
 pub type MethodRows = List<MethodRow>;
 
-/// A row of class definitions. `members_at` and `values_at` are offsets in the file, 0 for none.
+/// A row of class definitions: the rows of its type, its superclass's and its interfaces', and its access flags. `members_at` and `values_at` are offsets
+/// in the file, in bytes, of its class data and its static values, 0 for none.
+/// Source: Dalvik Executable format, section class_def_item.
 #[derive(Drop)]
 pub struct ClassRow {
     pub class: u32,
@@ -87,6 +93,7 @@ pub struct ClassRow {
 pub type ClassRows = List<ClassRow>;
 
 /// The members of a class as the file has them; in its values a text holds its row.
+/// Source: Dalvik Executable format, sections class_data_item and encoded_array_item.
 #[derive(Drop)]
 pub struct RawClass {
     pub fields: RawFields,
@@ -94,10 +101,11 @@ pub struct RawClass {
     pub values: StaticValues,
 }
 
-/// Classes, in the file's order.
+/// Classes, in the order of the file's class definitions.
 pub type RawClasses = List<RawClass>;
 
-/// A field of a class data item.
+/// A field of a class data item: its row of the fields, its access flags, and whether it stands among the static fields.
+/// Source: Dalvik Executable format, section encoded_field format.
 #[derive(Clone, Copy, PartialEq, Eq)]
 pub struct RawField {
     pub row: u32,
@@ -105,10 +113,11 @@ pub struct RawField {
     pub is_static: bool,
 }
 
-/// Fields of a class data item.
+/// Fields of a class data item, the static ones first.
 pub type RawFields = List<RawField>;
 
-/// A method of a class data item.
+/// A method of a class data item: its row of the methods, its access flags, whether it stands among the direct methods, and its code.
+/// Source: Dalvik Executable format, section encoded_method format.
 #[derive(Drop)]
 pub struct RawMethod {
     pub row: u32,
@@ -117,10 +126,11 @@ pub struct RawMethod {
     pub code: Option<RawCode>,
 }
 
-/// Methods of a class data item.
+/// Methods of a class data item, the direct ones first.
 pub type RawMethods = List<RawMethod>;
 
-/// A code item.
+/// A code item: how many registers there are, how many of them hold arguments, the instructions in units of 16 bits, and the tries.
+/// Source: Dalvik Executable format, section code_item.
 #[derive(Drop)]
 pub struct RawCode {
     pub registers: u16,
@@ -129,7 +139,8 @@ pub struct RawCode {
     pub tries: RawTries,
 }
 
-/// A try of a code item, from `start` to before `end`.
+/// A try of a code item, from `start` to before `end`, in units.
+/// Source: Dalvik Executable format, section try_item format.
 #[derive(Drop)]
 pub struct RawTry {
     pub start: u32,
@@ -140,12 +151,13 @@ pub struct RawTry {
 /// Tries of a code item.
 pub type RawTries = List<RawTry>;
 
-/// A handler: the row of the type that it takes, or none, and its address.
+/// A handler: the row of the type that it takes, or `None` where it takes all, and its address in units.
+/// Source: Dalvik Executable format, sections encoded_catch_handler format and encoded_type_addr_pair format.
 #[derive(Clone, Copy, PartialEq, Eq)]
 pub struct RawCatch {
     pub row: Option<u32>,
     pub at: u32,
 }
 
-/// Handlers of a try.
+/// Handlers of a try, in the order in which they are asked.
 pub type RawCatches = List<RawCatch>;

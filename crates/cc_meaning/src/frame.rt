@@ -2,7 +2,7 @@
 
 use crate::lists::Bytes;
 
-/// A frame: its kind, 1 to 5, and its payload.
+/// A frame: its kind, 1 to 5, and its payload, at most 64 MiB.
 #[derive(Drop)]
 pub struct Frame {
     pub kind: u8,

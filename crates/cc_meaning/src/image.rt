@@ -16,7 +16,9 @@ pub enum Contents {
 /// Contents, each at the number of its object.
 pub type ContentsList = List<Contents>;
 
-/// The state at a method's entry. A reference holds an object's number in the image.
+/// The state at a method's entry: the method, the instructions and words left, how many frames stand and how many registers they have, a status for each
+/// class of the file, its arguments, the statics, the literals and class constants that were made, and the objects that these lead to. A reference holds an
+/// object's number in the image, counted from 1.
 #[derive(Drop)]
 pub struct RunImage {
     pub method: MethodIx,
@@ -32,7 +34,8 @@ pub struct RunImage {
     pub objects: Objects,
 }
 
-/// The state at a method's end: what changed since its entry.
+/// The state at a method's end: how it ended, the instructions and words left, the statuses and statics, the literals and constants made since its entry,
+/// the scripted calls since then, what the objects of the entry's image hold now, and the objects made since.
 #[derive(Drop)]
 pub struct BackImage {
     pub ending: CallEnd,

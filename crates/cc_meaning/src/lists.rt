@@ -2,16 +2,16 @@
 
 use cc_list::List;
 
-/// The place of a class in a program's list of classes.
+/// The place of a class in a program's list of classes, counted from 0.
 pub type ClassIx = u32;
 
-/// The place of a method in a program's list of methods.
+/// The place of a method in a program's list of methods, counted from 0.
 pub type MethodIx = u32;
 
-/// The place of a field in a program's list of fields.
+/// The place of a field in a program's list of fields, counted from 0.
 pub type FieldIx = u32;
 
-/// The place of a text in a program's list of texts.
+/// The place of a text in a program's list of texts, counted from 0.
 pub type TextIx = u32;
 
 /// The number of an object: how many objects a heap had when it was made.
@@ -29,7 +29,7 @@ pub type Texts = List<Units>;
 /// The arguments of a program, each as its units of UTF-16.
 pub type ArgTexts = List<Units>;
 
-/// Rows of a table of a file.
+/// Rows of a table of a file, each as its place there, counted from 0.
 pub type Rows = List<u32>;
 
 /// The numbers of calls, counted from 0.
@@ -38,13 +38,13 @@ pub type CallList = List<u64>;
 /// Whole numbers.
 pub type Numbers = List<i64>;
 
-/// How many answers of each class of a program were taken.
+/// How many answers of its script each class of a program has taken, by the class's number.
 pub type Cursors = List<u32>;
 
-/// Registers of an instruction.
+/// Registers that an instruction names, by number.
 pub type Registers = List<u16>;
 
-/// Offsets and keys of a switch.
+/// Keys of a switch, or targets of one in units from its address.
 pub type Offsets = List<i32>;
 
 /// Numbers of objects.

@@ -3,7 +3,7 @@
 use crate::lists::{MethodIx, MethodList, Numbers};
 use cc_list::List;
 
-/// What an instruction costs on the device and on the clone, and what a migration and a byte of it cost.
+/// What an instruction costs on the device and on the clone, and what a migration and a byte that it sends cost, all in one unit of cost.
 #[derive(Clone, Copy, PartialEq, Eq)]
 pub struct Weights {
     pub device: u32,
@@ -12,8 +12,8 @@ pub struct Weights {
     pub byte: u32,
 }
 
-/// An invocation: its method, the place of the one that it was called by, its cost on the device and on the clone with all below it,
-/// and the bytes of the states at its entry and its end.
+/// An invocation: its method, the place of the one that it was called by, its cost on the device and on the clone with all invocations below it,
+/// and the bytes of the states that a migration at its entry and at its end would send.
 #[derive(Clone, Copy, PartialEq, Eq)]
 pub struct Node {
     pub method: MethodIx,
@@ -24,10 +24,10 @@ pub struct Node {
     pub exit_bytes: u32,
 }
 
-/// Invocations, in the order of their entries.
+/// Invocations, in the order of their entries, each at its place counted from 0.
 pub type Nodes = List<Node>;
 
-/// A profiled run.
+/// A profiled run: its invocations, and what a migration and a byte of it cost.
 #[derive(Drop)]
 pub struct Execution {
     pub fixed: u32,
@@ -38,19 +38,19 @@ pub struct Execution {
 /// Profiled runs.
 pub type Executions = List<Execution>;
 
-/// Profiles.
+/// The runs by which partitions are judged.
 #[derive(Drop)]
 pub struct Profiles {
     pub executions: Executions,
 }
 
-/// The methods that move, in rising order.
+/// The methods at whose entry the thread moves to the clone, in rising order.
 #[derive(Drop)]
 pub struct Partition {
     pub moved: MethodList,
 }
 
-/// What a search has chosen for a method.
+/// What a search has chosen for a method: that it isn't moved, that it is, or nothing yet.
 #[derive(Clone, Copy, PartialEq, Eq)]
 pub enum Choice {
     Stay,
@@ -58,7 +58,7 @@ pub enum Choice {
     Undecided,
 }
 
-/// A choice for each method that may move.
+/// A choice for each method that may be moved, in rising order of these methods.
 pub type Choices = List<Choice>;
 
 /// A partition of which a part is chosen.
@@ -67,7 +67,8 @@ pub struct Partial {
     pub choices: Choices,
 }
 
-/// A cost, and the tree of the search that shows that none is lower.
+/// A cost, and the tree of a search that shows that none is lower, in preorder: a number from 0 on splits the candidate of that place, first staying and then
+/// moved; -1 is a leaf where a rule is broken, and -2 one whose bound is no lower than the cost.
 #[derive(Drop)]
 pub struct Certificate {
     pub cost: u64,

@@ -4,7 +4,8 @@ use crate::instruction::Insn;
 use crate::lists::{ClassIx, ClassList, FieldList, MethodIx, TextIx, Texts, Units};
 use cc_list::List;
 
-/// A type of a field, a parameter or a result, without its array dimensions.
+/// A type of a field, a parameter or a result, without its array dimensions. There is none of floating point.
+/// Source: Dalvik Executable format, section TypeDescriptor Semantics.
 #[derive(Clone, Copy, PartialEq, Eq)]
 pub enum Base {
     Boolean,
@@ -16,17 +17,19 @@ pub enum Base {
     Class(ClassIx),
 }
 
-/// A type: an array of so many dimensions, or none at 0, of a base type.
+/// A type: an array of `dims` dimensions of a base type, and at 0 the base type itself.
+/// Source: Dalvik Executable format, section TypeDescriptor Semantics.
 #[derive(Clone, Copy, PartialEq, Eq)]
 pub struct DexType {
     pub dims: u8,
     pub base: Base,
 }
 
-/// Types, as those of a method's parameters.
+/// Types, as those of a method's parameters in order.
 pub type Types = List<DexType>;
 
-/// Where a class comes from. An `OutsideError` is a class of neither the file nor the built-in ones whose superclass is `Exception` or `Error`.
+/// Where a class comes from: the file defines it, it is built in, or it is an array. Every other one is outside, and an `OutsideError` where its
+/// superclass is taken to be `Exception` or `Error`.
 #[derive(Clone, Copy, PartialEq, Eq)]
 pub enum ClassKind {
     File,
@@ -36,7 +39,8 @@ pub enum ClassKind {
     Array,
 }
 
-/// The value that a file states for a static field.
+/// The value that a file states for a static field. A text is the number of a text of the program, and in what is read of a file its row.
+/// Source: Dalvik Executable format, section encoded_value encoding.
 #[derive(Clone, Copy, PartialEq, Eq)]
 pub enum StaticValue {
     Int(i32),
@@ -45,10 +49,13 @@ pub enum StaticValue {
     Null,
 }
 
-/// Static values, for the first static fields of a class in order.
+/// Static values, for the first static fields of a class in order; the other fields begin at zero or null.
+/// Source: Dalvik Executable format, section encoded_array_item.
 pub type StaticValues = List<StaticValue>;
 
-/// A class. Its layout has the instance fields of the superclass first, then its own.
+/// A class. The name is its descriptor, as `Lc;` or `[I`, and the interfaces are those that it names itself. The layout has the instance fields of the
+/// superclass first, then its own in number order; `values` are those of its own static fields.
+/// Source: Dalvik Executable format, section class_def_item.
 #[derive(Drop)]
 pub struct Class {
     pub name: Units,
@@ -62,10 +69,11 @@ pub struct Class {
     pub values: StaticValues,
 }
 
-/// The classes of a program, in rising order of names.
+/// The classes of a program, in rising order of their names by UTF-16 units.
 pub type Classes = List<Class>;
 
-/// A field.
+/// A field. The name is the bare one, as `size`.
+/// Source: Dalvik Executable format, sections field_id_item and encoded_field format.
 #[derive(Drop)]
 pub struct Field {
     pub class: ClassIx,
@@ -74,10 +82,10 @@ pub struct Field {
     pub is_static: bool,
 }
 
-/// The fields of a program, in rising order of names.
+/// The fields of a program, in rising order of their names as printed, by UTF-16 units.
 pub type Fields = List<Field>;
 
-/// Where a method's meaning comes from.
+/// Where a method's meaning comes from. A native method and an outside one are answered by the script, a built-in one by its own rule.
 #[derive(Drop)]
 pub enum MethodKind {
     Code(Code),
@@ -87,7 +95,9 @@ pub enum MethodKind {
     Outside,
 }
 
-/// A method. `result` is `None` for a method that gives nothing.
+/// A method. The name is the bare one, as `main`; `params` leaves out the receiver, and `result` is `None` for a method that gives nothing.
+/// `is_virtual` says whether a call of it is dispatched by the receiver's class.
+/// Source: Dalvik Executable format, sections method_id_item, proto_id_item and encoded_method format.
 #[derive(Drop)]
 pub struct Method {
     pub class: ClassIx,
@@ -99,10 +109,10 @@ pub struct Method {
     pub kind: MethodKind,
 }
 
-/// The methods of a program, in rising order of names.
+/// The methods of a program, in rising order of their names as printed, by UTF-16 units.
 pub type Methods = List<Method>;
 
-/// An instruction, with its address and its length, both in units of 16 bits.
+/// An instruction, with its address and its length, both in units of 16 bits. A payload is one of these.
 #[derive(Drop)]
 pub struct Placed {
     pub at: u32,
@@ -110,20 +120,22 @@ pub struct Placed {
     pub insn: Insn,
 }
 
-/// The instructions of a method, by rising address.
+/// The instructions of a method, by rising address, each where the one before it ends.
 pub type Insns = List<Placed>;
 
-/// A handler of a try: the type that it takes, or every one, and its address.
+/// A handler of a try: the type that it takes, or every one at `None`, and its address in units.
+/// Source: Dalvik Executable format, sections encoded_catch_handler format and encoded_type_addr_pair format.
 #[derive(Clone, Copy, PartialEq, Eq)]
 pub struct Catch {
     pub kind: Option<DexType>,
     pub at: u32,
 }
 
-/// The handlers of a try, in order.
+/// The handlers of a try, in the order in which they are asked.
 pub type Catches = List<Catch>;
 
-/// A try, which covers the addresses from `start` to before `end`.
+/// A try, which covers the addresses from `start` to before `end`, in units.
+/// Source: Dalvik Executable format, section try_item format.
 #[derive(Drop)]
 pub struct Try {
     pub start: u32,
@@ -134,7 +146,8 @@ pub struct Try {
 /// The tries of a method, in order.
 pub type Tries = List<Try>;
 
-/// A method's code: how many registers it has, how many of them, the last ones, hold its arguments, and its instructions.
+/// A method's code: how many registers it has, how many of them, the last ones, hold its arguments as it begins, its instructions and its tries.
+/// Source: Dalvik Executable format, section code_item.
 #[derive(Drop)]
 pub struct Code {
     pub registers: u16,
@@ -143,7 +156,7 @@ pub struct Code {
     pub tries: Tries,
 }
 
-/// A program, and the method that it begins with.
+/// A program, and the method that it begins with. Each of its lists is in rising order of names, so that a number is a place in that order.
 #[derive(Drop)]
 pub struct Program {
     pub classes: Classes,
@@ -153,7 +166,8 @@ pub struct Program {
     pub main: MethodIx,
 }
 
-/// What the verifier knows of a register. A `Fresh` is an object whose constructor has still to be called, made at that address.
+/// What the verifier knows of a register: nothing, an int, the literal 0, which is an int or null, half of a long, a reference that fits a type, or an
+/// object that was made at that address and whose constructor has still to be called.
 #[derive(Clone, Copy, PartialEq, Eq)]
 pub enum RegType {
     Unset,

@@ -1,6 +1,7 @@
 //! How a device fared with its clone, and what may befall a link.
 
 use crate::fault::{FrameFault, ImageFault};
+use crate::lists::MethodIx;
 use cc_list::List;
 
 /// What a link in memory does next: bytes go up to the clone or down to the device, a call moves nothing, the link is cut,
@@ -15,11 +16,11 @@ pub enum Happening {
     CloneStops,
 }
 
-/// What befalls a link, in order.
+/// What befalls a link, in order, the next first.
 pub type Happenings = List<Happening>;
 
-/// Why no more methods migrate: dialing failed, a call of the link failed, the link ended, so many calls in a row moved nothing, bytes were no frame,
-/// a frame of this kind wasn't awaited, an image doesn't fit, or the clone refused with this status.
+/// Why no more methods migrate: dialing failed, a call of the link failed, the link ended, so many calls within one frame moved nothing, bytes were no
+/// frame, a frame of this kind wasn't awaited, an image doesn't fit, or the clone refused with this status.
 #[derive(Clone, Copy)]
 pub enum LinkEnd {
     DialFailed,
@@ -37,4 +38,16 @@ pub enum LinkEnd {
 pub struct Travel {
     pub migrations: u64,
     pub fallback: Option<LinkEnd>,
+}
+
+/// Why a clone takes no more frames: bytes were no frame, a frame of this kind came out of order, its first frame was refused with this status,
+/// bytes were no image of a state, a state made a call that only the device may make, or there was no memory.
+#[derive(Clone, Copy)]
+pub enum CloneEnd {
+    BadFrame(FrameFault),
+    BadOrder(u8),
+    BadHello(u8),
+    BadRun(ImageFault),
+    AtPinned(MethodIx),
+    OutOfMemory,
 }

@@ -3,7 +3,7 @@
 use crate::lists::{ClassIx, MethodIx, ObjId, ObjIds, Units};
 use cc_list::List;
 
-/// A value: a number of 32 or 64 bits, or a reference, null where there is no object.
+/// A value: a number of 32 or 64 bits, or a reference, null where there is no object. A boolean, a byte, a short and a char are an `Int`.
 #[derive(Clone, Copy, PartialEq, Eq)]
 pub enum Value {
     Int(i32),
@@ -11,10 +11,11 @@ pub enum Value {
     Obj(Option<ObjId>),
 }
 
-/// Values, as those of an object's members.
+/// Values, as those of an object's fields in the order of its class's layout, or of an array's elements.
 pub type Values = List<Value>;
 
-/// An object of a heap. `Out` is the object of `System.out`, and a `Constant` the object of a class constant.
+/// An object of a heap. `Out` is the object of `System.out`, a `Builder` a string builder with the units that it has, and a `Constant` the object of a class
+/// constant. The class of an array is that of the array itself. The first value of a throwable is its message, a text or null.
 #[derive(Drop)]
 pub enum Object {
     Out,
@@ -28,7 +29,7 @@ pub enum Object {
 /// Objects, each at its number.
 pub type Objects = List<Object>;
 
-/// What a register holds. A number of 64 bits stands in its first register as a value, and in the next one as `High`.
+/// What a register holds: nothing yet, a value, or the second half of a long. A long stands in its first register as a value, and in the next one as `High`.
 #[derive(Clone, Copy, PartialEq, Eq)]
 pub enum Cell {
     Unset,
@@ -39,7 +40,7 @@ pub enum Cell {
 /// The registers of a frame.
 pub type Cells = List<Cell>;
 
-/// A frame: a method with code, the address of its next instruction, and its registers.
+/// A frame: a method with code, the address of its next instruction in units of 16 bits, and its registers.
 #[derive(Drop)]
 pub struct Activation {
     pub method: MethodIx,
@@ -47,7 +48,7 @@ pub struct Activation {
     pub cells: Cells,
 }
 
-/// A text or class, and the object that was made for it.
+/// The number of a text or of a class, and the object that was made for its literal or constant.
 #[derive(Clone, Copy, PartialEq, Eq)]
 pub struct Made {
     pub what: u32,
