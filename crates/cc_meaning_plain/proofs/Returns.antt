@@ -1,9 +1,6 @@
 -- A plain file's run returns, and prints what its instructions print.
-use Rattle.std.proofs.Common.{◌≡◌, ℕ, zero, suc, ◌+◌, ◌-◌, ◌*◌, ◌/◌, ◌%◌, ◌^◌, ◌<◌, ◌≤◌, ℤ, pos, negsuc, ◌-ℤ◌, Bool, true, false, cond, List, [], ◌∷◌, ◌++◌, length, replicate, Option, Some, None, refl, sym, ap, ◌∙◌, subst, arith, slice_index, slice_set, slice_get, nat_lt}
-use Rattle.std.specs.Int.{w32}
-use Rattle.std.specs.Int.RustNames.{FitsSigned}
+use Rattle.std.proofs.Common.{◌≡◌, ℕ, ◌+◌, ◌-◌, ◌*◌, ◌/◌, ◌<◌, ◌≤◌, pos, ◌-ℤ◌, true, false, cond, List, [], ◌∷◌, ◌++◌, length, replicate, Some, None, refl, sym, ap, ◌∙◌, subst, arith, nat_lt}
 use Rattle.std.proofs.lemmas.Int.{ints}
-use Rattle.std.proofs.lemmas.Bool.Decides.{nat_tests}
 use Rattle.std.proofs.lemmas.List.{length-append, length-replicate}
 use Rattle.cc_meaning.specs.declared.value.Value.TheVariants as value
 use Rattle.cc_meaning.specs.declared.value.Cell.{Cell}
@@ -11,13 +8,14 @@ use Rattle.cc_meaning.specs.declared.value.Cell.TheVariants as cell
 use Rattle.cc_meaning.specs.declared.value.Object.TheVariants as object
 use Rattle.cc_meaning.specs.declared.report.Ending.TheVariants as ending
 use Rattle.cc_meaning.specs.declared.report.Report.{Report}
+use Rattle.cc_meaning.specs.BuiltIn.{system_out_name, system_name, print_stream_name}
 use Rattle.cc_meaning_file.specs.Numbers.{u16_at}
 use Rattle.cc_meaning_run.specs.World.{World, Stack, Locals}
-use Rattle.cc_meaning_run.specs.Acts.{less_by, with_words, pay, object_words, with_object, run_act}
-use Rattle.cc_meaning_run.specs.Instructions.{class_name, code_of_kind, code_of_method, code_of as code_in}
+use Rattle.cc_meaning_run.specs.Acts.{less_by, with_words, pay, with_object, run_act}
+use Rattle.cc_meaning_run.specs.Instructions.{code_of_kind, code_of_method, code_of as code_in}
 use Rattle.cc_meaning_run.specs.Eval.{Returned, Ran, ran, cells_of, registers_in, unset_in, locals_for, deeper, body, eval_with}
 use Rattle.cc_meaning_run.specs.Invocations.{Invocations, entered, onlooker}
-use Rattle.cc_meaning_run.specs.Local.{is_out_field, opening_static, opening_world, make_texts, texts_class, make_args, with_ready, main_class, begun, begin_in, run_with, output_of, calls_of, ending_of, report_in, report_of, local}
+use Rattle.cc_meaning_run.specs.Local.{opening_static, opening_world, make_texts, texts_class, make_args, with_ready, main_class, begun, begin_in, run_with, output_of, calls_of, ending_of, report_in, report_of, local}
 use Rattle.cc_meaning_plain.specs.declared.plain.PlainInsn.{PlainInsn}
 use Rattle.cc_meaning_plain.specs.declared.plain.PlainInsn.TheVariants.{SgetOut, Const4, AddInt2Addr, InvokePrintln}
 use Rattle.cc_meaning_plain.specs.declared.plain.Plain.{Plain}
@@ -26,7 +24,7 @@ use Rattle.cc_meaning_plain.specs.Plain.{IsPlain}
 use Rattle.cc_meaning_plain.specs.Program.{program_of, setting_of}
 use Rattle.cc_meaning_plain.specs.Text.{text_of}
 use Rattle.cc_meaning_plain.specs.Laws.{default_limits, Prints, AreBytes}
-use Rattle.cc_meaning_plain.proofs.Running.{Fits32, ConstantsFit, FitsCell, nothing, Fits, fnil, fcons, Ready, Finishes, runs, some_units}
+use Rattle.cc_meaning_plain.proofs.Running.{Fits32, ConstantsFit, nothing, Fits, fnil, fcons, Ready, Finishes, runs, some_units}
 
 -- ---- the instructions of a plain file
 
@@ -78,11 +76,11 @@ module _ (plain : Plain) where
   first_stack = record { depth = 1; registers = 0 + plain.registers }
 
   begins : run_with onlooker (setting_of plain) [] default_limits first_list ≡ eval_with onlooker (setting_of plain) 100000000 0 0 first_locals first_stack first_world first_list
-  unfolding run_with make_args make_texts run_act pay less_by object_words begin_in begun body main_class setting_of program_of first_world first_locals first_stack locals_for deeper unset_in registers_in cells_of code_in code_of_method code_of_kind opening_world with_object with_words with_ready
+  unfolding run_with make_args make_texts run_act pay less_by begin_in begun body main_class setting_of program_of first_world first_locals first_stack locals_for deeper unset_in registers_in cells_of code_in code_of_method code_of_kind opening_world with_object with_words with_ready
   begins = refl
 
   first_ready : (insns : List PlainInsn) → length insns < 1000 → Ready plain first_world insns
-  unfolding first_world opening_world opening_static is_out_field class_name program_of with_object with_words with_ready
+  unfolding first_world opening_world opening_static program_of system_out_name system_name print_stream_name with_object with_words with_ready
   first_ready insns few = record { object_stands = refl; static_stands = refl; instructions = omega arith; words = omega arith }
 
   first_output : output_of first_world.events ≡ []

@@ -1,33 +1,33 @@
 -- The run of a plain file: it goes down its instructions, and returns.
-use Rattle.std.proofs.Common.{inl, inr, ◌≡◌, ◌⊎◌, ℕ, zero, suc, ◌+◌, ◌-◌, ◌*◌, ◌/◌, ◌%◌, ◌^◌, ◌<◌, ◌≤◌, ◌==◌, ℤ, pos, negsuc, Bool, true, false, cond, List, [], ◌∷◌, ◌++◌, length, replicate, Option, Some, None, refl, sym, ap, ◌∙◌, subst, arith, slice_get, slice_set, find, slice_index, nat_le}
+use Rattle.std.proofs.Common.{◌≡◌, ℕ, zero, suc, ◌+◌, ◌-◌, ◌*◌, ◌^◌, ◌<◌, ◌≤◌, ◌==◌, ℤ, Bool, true, false, List, [], ◌∷◌, ◌++◌, length, Option, Some, None, refl, sym, ap, ◌∙◌, subst, arith, slice_get, slice_set, find, nat_le, map, unwrap_or, encode_utf8_all}
 use Rattle.std.specs.Int.{int_wrapping_add, w32}
 use Rattle.std.specs.Int.RustNames.{FitsSigned}
 use Rattle.std.specs.Fmt.{signed_decimal}
-use Rattle.std.specs.Char.{encode_utf8}
+use Rattle.std.specs.Char.Utf16.{utf16_chars}
 use Rattle.std.specs.Str.{IsAscii}
 use Rattle.std.specs.Int.Signed.{mag}
-use Rattle.std.proofs.lemmas.List.{append-nil, append_assoc, length-append, length-replicate}
+use Rattle.std.proofs.lemmas.List.{append-nil, append_assoc, length-append}
 use Rattle.std.proofs.lemmas.Fmt.{length_signed_le, IsAscii-signed}
-use Rattle.std.proofs.lemmas.Str.{encode_ascii}
+use Rattle.std.proofs.lemmas.Str.{encodes-IsAscii, IsAscii-append}
 use Rattle.std.proofs.lemmas.Int.{wrapping_add_is, SFits-int_wrap}
 use Rattle.std.proofs.lemmas.Bool.Decides.{nat_tests}
 use Rattle.cc_meaning.specs.declared.value.Value.{Value}
 use Rattle.cc_meaning.specs.declared.value.Value.TheVariants as value
 use Rattle.cc_meaning.specs.declared.value.Cell.{Cell}
 use Rattle.cc_meaning.specs.declared.value.Cell.TheVariants as cell
-use Rattle.cc_meaning.specs.declared.value.Object.{Object}
 use Rattle.cc_meaning.specs.declared.value.Object.TheVariants as object
 use Rattle.cc_meaning.specs.declared.report.Event.{Event}
 use Rattle.cc_meaning.specs.declared.report.Event.TheVariants as event
 use Rattle.cc_meaning.specs.declared.program.Placed.{Placed}
-use Rattle.cc_meaning.specs.declared.program.Program.{Program}
 use Rattle.cc_meaning.specs.declared.instruction.Insn.TheVariants as insn
-use Rattle.cc_meaning_run.specs.World.{Setting, World, Counters, Stack, Locals}
-use Rattle.cc_meaning_run.specs.Acts.{Outcome, Next, Returns, Act, Done, Reached, less_by, with_words, pay, print_words, with_event, found, noted, run_act}
-use Rattle.cc_meaning_run.specs.Instructions.{on_cell, on_value, on_int, on_object, on_values, set_next, class_name, is_int, takes_int, println_if, built_in, line_of, on_stream, print_line, call_built_in, call_kind, call, call_named, act_of, code_of_kind, code_of_method, code_of as code_in, placed_in, act_placed, act_at}
-use Rattle.cc_meaning_run.specs.Eval.{Returned, Ran, ran, Hook, Go, after, with_instructions, turn_in, turn, eval_with}
+use Rattle.cc_meaning.specs.BuiltIn.{print_stream_name}
+use Rattle.cc_meaning.specs.Words.{words_of_event}
+use Rattle.cc_meaning_run.specs.World.{Setting, World, Stack, Locals}
+use Rattle.cc_meaning_run.specs.Acts.{Outcome, Next, Returns, Act, Reached, less_by, with_words, pay, with_event, found, noted, run_act}
+use Rattle.cc_meaning_run.specs.Instructions.{on_cell, on_value, on_int, on_object, on_values, set_next, println_if, built_in, line_of, on_stream, print_line, call_built_in, call_kind, call, call_named, act_of, code_of_kind, code_of_method, code_of as code_in, placed_in, act_placed, act_at}
+use Rattle.cc_meaning_run.specs.Eval.{Returned, Ran, ran, after, with_instructions, turn_in, turn, eval_with}
 use Rattle.cc_meaning_run.specs.Invocations.{Invocations, charged, onlooker}
-use Rattle.cc_meaning_run.specs.Local.{is_high, is_low, utf8_unit, utf8_units, output_of, calls_of}
+use Rattle.cc_meaning_run.specs.Local.{utf8_of, output_of, calls_of}
 use Rattle.cc_meaning_plain.specs.declared.plain.PlainInsn.{PlainInsn}
 use Rattle.cc_meaning_plain.specs.declared.plain.PlainInsn.TheVariants.{SgetOut, Const4, AddInt2Addr, InvokePrintln}
 use Rattle.cc_meaning_plain.specs.declared.plain.Plain.{Plain}
@@ -153,12 +153,6 @@ line_is_short n f =
     let d : length (signed_decimal n) ≤ 11 = length_signed_le 10 n (omega arith) (omega arith) in
     omega (arith, length-append (signed_decimal n) (10 ∷ []))
 
-unit_is_itself : (u : ℕ) → u < 128 → utf8_unit u ≡ u ∷ []
-unfolding utf8_unit
-unit_is_itself u h =
-    let t : nat_le 55296 u ≡ false = grind (arith, nat_tests) in
-    rw t (encode_ascii u h)
-
 -- every unit is below 128
 abbrev Ascii : List ℕ → Type 0
 Ascii [] = Unit {0}
@@ -168,30 +162,37 @@ ascii_each : (us : List ℕ) → IsAscii us → Ascii us
 ascii_each [] h = tt
 ascii_each (u ∷ us) h = (h 0, ascii_each us (λ i. h (suc i)))
 
-ascii_more : (us vs : List ℕ) → Ascii us → Ascii vs → Ascii (us ++ vs)
-ascii_more [] vs h k = k
-ascii_more (u ∷ us) vs h k = (h.0, ascii_more us vs h.1 k)
+not_over : (bound u : ℕ) → u < bound → nat_le bound u ≡ false
+not_over bound u h = grind (arith, nat_tests)
 
-not_high : (u : ℕ) → u < 128 → is_high u ≡ false
-unfolding is_high
-not_high u h = let t : nat_le 55296 u ≡ false = grind (arith, nat_tests) in rw t refl
+units_are_characters : (us : List ℕ) → Ascii us → utf16_chars us ≡ map Some us
+unfolding utf16_chars
+units_are_characters [] h = refl
+units_are_characters (u ∷ []) h = rw (not_over 55296 u (omega (arith, h.0))) refl
+units_are_characters (u ∷ v ∷ rest) h = rw (not_over 55296 u (omega (arith, h.0)), units_are_characters (v ∷ rest) h.1) refl
 
-text_is_itself : (us : List ℕ) → Ascii us → utf8_units us ≡ us
-unfolding utf8_units
-text_is_itself [] h = refl
-text_is_itself (u ∷ []) h = unit_is_itself u h.0
-text_is_itself (u ∷ v ∷ rest) h = rw (not_high u h.0) (ap (λ front. front ++ utf8_units (v ∷ rest)) (unit_is_itself u h.0) ∙ ap (λ us. u ∷ us) (text_is_itself (v ∷ rest) h.1))
+all_some : (us : List ℕ) → map (λ c. unwrap_or c 63) (map Some us) ≡ us
+all_some [] = refl
+all_some (u ∷ us) = ap (λ rest. u ∷ rest) (all_some us)
 
-line_is_itself : (n : ℤ) → Fits32 n → utf8_units (line_of n) ≡ line_of n
+text_is_itself : (us : List ℕ) → IsAscii us → utf8_of us ≡ us
+unfolding utf8_of
+text_is_itself us h = ap (λ cs. encode_utf8_all (map (λ c. unwrap_or c 63) cs)) (units_are_characters us (ascii_each us h)) ∙ ap encode_utf8_all (all_some us) ∙ encodes-IsAscii us h
+
+line_feed_is_ascii : IsAscii (10 ∷ [])
+line_feed_is_ascii zero = omega arith
+line_feed_is_ascii (suc i) = omega arith
+
+line_is_itself : (n : ℤ) → Fits32 n → utf8_of (line_of n) ≡ line_of n
 unfolding line_of
 line_is_itself n f =
     let m = small n f in
-    text_is_itself (signed_decimal n ++ 10 ∷ []) (ascii_more (signed_decimal n) (10 ∷ []) (ascii_each (signed_decimal n) (IsAscii-signed n (omega arith))) (omega arith, tt))
+    text_is_itself (signed_decimal n ++ 10 ∷ []) (IsAscii-append (signed_decimal n) (10 ∷ []) (IsAscii-signed n (omega arith)) line_feed_is_ascii)
 
-output-append : (es : List Event) (units : List ℕ) → output_of (es ++ event.Print units ∷ []) ≡ output_of es ++ utf8_units units
+output-append : (es : List Event) (units : List ℕ) → output_of (es ++ event.Print units ∷ []) ≡ output_of es ++ utf8_of units
 unfolding output_of
-output-append [] units = append-nil (utf8_units units)
-output-append (event.Print us ∷ es) units = ap (λ l. utf8_units us ++ l) (output-append es units) ∙ sym (append_assoc (utf8_units us) (output_of es) (utf8_units units))
+output-append [] units = append-nil (utf8_of units)
+output-append (event.Print us ∷ es) units = ap (λ l. utf8_of us ++ l) (output-append es units) ∙ sym (append_assoc (utf8_of us) (output_of es) (utf8_of units))
 output-append (event.Call m args answer ∷ es) units = output-append es units
 
 calls-append : (es : List Event) (units : List ℕ) → calls_of (es ++ event.Print units ∷ []) ≡ calls_of es
@@ -248,13 +249,13 @@ module _ (plain : Plain) where
 
   -- the world after a print
   abbrev printed : World → List ℕ → World
-  printed w units = with_event (with_words w (w.counters.words - print_words units)) (event.Print units)
+  printed w units = with_event (with_words w (w.counters.words - words_of_event (event.Print units))) (event.Print units)
 
   print_act : (next : ℕ) (locals : Locals) (receiver from : ℕ) (n : ℤ) (w : World) → slice_get locals.cells receiver ≡ Some (cell.Value (value.Obj (Some 0))) → slice_get locals.cells from ≡ Some (cell.Value (value.Int n)) →
-      slice_get w.objects 0 ≡ Some object.Out → print_words (line_of n) ≤ w.counters.words →
+      slice_get w.objects 0 ≡ Some object.Out → words_of_event (event.Print (line_of n)) ≤ w.counters.words →
       run_act (act_of (program_of plain) next locals (insn_of (InvokePrintln receiver from))) w ≡ led (next_with next locals.cells) (printed w (line_of n)) (1 ∷ [])
-  unfolding act_of on_values on_value on_cell call_named call call_kind call_built_in built_in println_if takes_int is_int class_name program_of print_line on_object on_stream on_int run_act found pay noted
-  print_act next locals receiver from n w es en eo le = rw (es, en, eo, less_some (print_words (line_of n)) w.counters.words le) refl
+  unfolding act_of on_values on_value on_cell call_named call call_kind call_built_in built_in println_if program_of print_line print_stream_name on_object on_stream on_int run_act found pay noted
+  print_act next locals receiver from n w es en eo le = rw (es, en, eo, less_some (words_of_event (event.Print (line_of n))) w.counters.words le) refl
 
   return_act : (next : ℕ) (locals : Locals) (w : World) → run_act (act_of (program_of plain) next locals insn.ReturnVoid) w ≡ led (Returns None) w []
   unfolding act_of run_act
@@ -325,11 +326,11 @@ module _ (plain : Plain) where
   unfolding with_instructions
   ready_spent w k i rest left r = let l = r.instructions in let m = r.words in record { object_stands = r.object_stands; static_stands = r.static_stands; instructions = omega arith; words = omega arith }
 
-  print_cost : (n : ℤ) → Fits32 n → print_words (line_of n) ≤ 14
-  unfolding print_words
+  print_cost : (n : ℤ) → Fits32 n → words_of_event (event.Print (line_of n)) ≤ 14
+  unfolding line_of
   print_cost n f = omega (arith, line_is_short n f)
 
-  ready_printed : (w : World) (k : ℕ) (i : PlainInsn) (rest : List PlainInsn) (units : List ℕ) → w.counters.instructions ≡ suc k → print_words units ≤ 14 → Ready w (i ∷ rest) → Ready (printed (with_instructions w k) units) rest
+  ready_printed : (w : World) (k : ℕ) (i : PlainInsn) (rest : List PlainInsn) (units : List ℕ) → w.counters.instructions ≡ suc k → words_of_event (event.Print units) ≤ 14 → Ready w (i ∷ rest) → Ready (printed (with_instructions w k) units) rest
   unfolding with_instructions with_words with_event
   ready_printed w k i rest units left cost r = let l = r.instructions in let m = r.words in record { object_stands = r.object_stands; static_stands = r.static_stands; instructions = omega arith; words = omega arith }
 

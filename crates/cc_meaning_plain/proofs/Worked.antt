@@ -2,22 +2,24 @@
 use Rattle.std.proofs.Common.{refl}
 use Rattle.std.specs.Fmt.{digits}
 use Rattle.std.specs.Char.{encode_utf8}
-use Rattle.cc_meaning_run.specs.Acts.{less_by, with_words, pay, object_words, print_words, with_object, with_event, found, noted, run_act}
-use Rattle.cc_meaning_run.specs.Instructions.{on_cell, on_value, on_int, on_object, on_values, set_next, class_name, is_int, takes_int, println_if, built_in, line_of, on_stream, print_line, call_built_in, call_kind, call, call_named, act_of, code_of_kind, code_of_method, code_of, placed_in, act_placed, act_at}
+use Rattle.std.specs.Char.Utf16.{utf16_chars}
+use Rattle.cc_meaning.specs.BuiltIn.{object_name, string_name, system_name, print_stream_name, system_out_name}
+use Rattle.cc_meaning_run.specs.Acts.{less_by, with_words, pay, with_object, with_event, found, noted, run_act}
+use Rattle.cc_meaning_run.specs.Instructions.{on_cell, on_value, on_int, on_object, on_values, set_next, println_if, built_in, line_of, on_stream, print_line, call_built_in, call_kind, call, call_named, act_of, code_of_kind, code_of_method, code_of, placed_in, act_placed, act_at}
 use Rattle.cc_meaning_run.specs.Eval.{cells_of, registers_in, unset_in, locals_for, deeper, resume, body, replied, after, with_instructions, turn_in, turn, eval_with}
 use Rattle.cc_meaning_run.specs.Invocations.{place_at, entered, counted, charged, onlooker}
-use Rattle.cc_meaning_run.specs.Local.{is_out_field, zero_of_base, zero_of, opening_static, opening_world, make_texts, texts_class, make_args, with_ready, main_class, begun, begin_in, run_with, is_high, is_low, utf8_unit, utf8_pair, utf8_units, output_of, calls_of, message_of, thrown_ending, ending_of, report_in, report_of, local, invocations}
+use Rattle.cc_meaning_run.specs.Local.{opening_static, opening_world, make_texts, texts_class, make_args, with_ready, main_class, begun, begin_in, run_with, utf8_of, output_of, calls_of, message_of, thrown_ending, ending_of, report_in, report_of, local, invocations}
 use Rattle.cc_meaning_plain.specs.Program.{placed_from, program_of, setting_of}
 use Rattle.cc_meaning_plain.specs.Worked.{TakesSix, TakesSixWords, IsOneInvocation}
 
 pub takes_six : TakesSix
-unfolding less_by with_words pay object_words print_words with_object with_event found noted run_act on_cell on_value on_int on_object on_values set_next class_name is_int takes_int println_if built_in line_of on_stream print_line call_built_in call_kind call call_named act_of code_of_kind code_of_method code_of placed_in act_placed act_at cells_of registers_in unset_in locals_for deeper resume body replied after with_instructions turn_in turn eval_with place_at entered counted charged onlooker is_out_field zero_of_base zero_of opening_static opening_world make_texts texts_class make_args with_ready main_class begun begin_in run_with is_high is_low utf8_unit utf8_pair utf8_units output_of calls_of message_of thrown_ending ending_of report_in report_of local invocations placed_from program_of setting_of digits encode_utf8
+unfolding less_by with_words pay with_object with_event found noted run_act on_cell on_value on_int on_object on_values set_next println_if built_in line_of on_stream print_line call_built_in call_kind call call_named act_of code_of_kind code_of_method code_of placed_in act_placed act_at cells_of registers_in unset_in locals_for deeper resume body replied after with_instructions turn_in turn eval_with place_at entered counted charged onlooker opening_static opening_world make_texts texts_class make_args with_ready main_class begun begin_in run_with utf8_of output_of calls_of message_of thrown_ending ending_of report_in report_of local invocations placed_from program_of setting_of digits encode_utf8 utf16_chars object_name string_name system_name print_stream_name system_out_name
 takes_six = record { five = refl; six = refl }
 
 pub takes_six_words : TakesSixWords
-unfolding less_by with_words pay object_words print_words with_object with_event found noted run_act on_cell on_value on_int on_object on_values set_next class_name is_int takes_int println_if built_in line_of on_stream print_line call_built_in call_kind call call_named act_of code_of_kind code_of_method code_of placed_in act_placed act_at cells_of registers_in unset_in locals_for deeper resume body replied after with_instructions turn_in turn eval_with place_at entered counted charged onlooker is_out_field zero_of_base zero_of opening_static opening_world make_texts texts_class make_args with_ready main_class begun begin_in run_with is_high is_low utf8_unit utf8_pair utf8_units output_of calls_of message_of thrown_ending ending_of report_in report_of local invocations placed_from program_of setting_of digits encode_utf8
+unfolding less_by with_words pay with_object with_event found noted run_act on_cell on_value on_int on_object on_values set_next println_if built_in line_of on_stream print_line call_built_in call_kind call call_named act_of code_of_kind code_of_method code_of placed_in act_placed act_at cells_of registers_in unset_in locals_for deeper resume body replied after with_instructions turn_in turn eval_with place_at entered counted charged onlooker opening_static opening_world make_texts texts_class make_args with_ready main_class begun begin_in run_with utf8_of output_of calls_of message_of thrown_ending ending_of report_in report_of local invocations placed_from program_of setting_of digits encode_utf8 utf16_chars object_name string_name system_name print_stream_name system_out_name
 takes_six_words = record { five = refl; six = refl }
 
 pub is_one_invocation : IsOneInvocation
-unfolding less_by with_words pay object_words print_words with_object with_event found noted run_act on_cell on_value on_int on_object on_values set_next class_name is_int takes_int println_if built_in line_of on_stream print_line call_built_in call_kind call call_named act_of code_of_kind code_of_method code_of placed_in act_placed act_at cells_of registers_in unset_in locals_for deeper resume body replied after with_instructions turn_in turn eval_with place_at entered counted charged onlooker is_out_field zero_of_base zero_of opening_static opening_world make_texts texts_class make_args with_ready main_class begun begin_in run_with is_high is_low utf8_unit utf8_pair utf8_units output_of calls_of message_of thrown_ending ending_of report_in report_of local invocations placed_from program_of setting_of digits encode_utf8
+unfolding less_by with_words pay with_object with_event found noted run_act on_cell on_value on_int on_object on_values set_next println_if built_in line_of on_stream print_line call_built_in call_kind call call_named act_of code_of_kind code_of_method code_of placed_in act_placed act_at cells_of registers_in unset_in locals_for deeper resume body replied after with_instructions turn_in turn eval_with place_at entered counted charged onlooker opening_static opening_world make_texts texts_class make_args with_ready main_class begun begin_in run_with utf8_of output_of calls_of message_of thrown_ending ending_of report_in report_of local invocations placed_from program_of setting_of digits encode_utf8 utf16_chars object_name string_name system_name print_stream_name system_out_name
 is_one_invocation = refl

@@ -1,5 +1,5 @@
 -- The laws of plain files.
-use Rattle.std.specs.Prelude.{◌≡◌, ℕ, ◌<◌, ◌≤◌, pos, List, [], length, replicate, Some, slice_index}
+use Rattle.std.specs.Prelude.{◌≡◌, ℕ, ◌<◌, pos, List, [], replicate, Some, slice_index}
 use Rattle.cc_meaning.specs.declared.report.Ending.TheVariants as ending
 use Rattle.cc_meaning.specs.declared.report.Report.{Report}
 use Rattle.cc_meaning.specs.declared.report.Limits.{Limits}

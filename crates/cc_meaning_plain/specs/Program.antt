@@ -1,5 +1,5 @@
 -- The program that a plain file is.
-use Rattle.std.specs.Prelude.{ℕ, ◌+◌, List, [], ◌∷◌, Some, None, true, false, codes}
+use Rattle.std.specs.Prelude.{ℕ, ◌+◌, List, [], ◌∷◌, None, true, false, codes}
 use Rattle.cc_meaning.specs.declared.program.Base.TheVariants as base
 use Rattle.cc_meaning.specs.declared.program.DexType.{DexType}
 use Rattle.cc_meaning.specs.declared.program.ClassKind.{ClassKind}
@@ -17,6 +17,7 @@ use Rattle.cc_meaning.specs.declared.instruction.IntOp.TheVariants as op
 use Rattle.cc_meaning.specs.declared.instruction.MethodRef.TheVariants as ref
 use Rattle.cc_meaning.specs.declared.instruction.Insn.{Insn}
 use Rattle.cc_meaning.specs.declared.instruction.Insn.TheVariants as insn
+use Rattle.cc_meaning.specs.BuiltIn.{object_name, string_name, system_name, print_stream_name}
 use Rattle.cc_meaning_run.specs.World.{Setting}
 use Rattle.cc_meaning_plain.specs.declared.plain.PlainInsn.{PlainInsn}
 use Rattle.cc_meaning_plain.specs.declared.plain.PlainInsn.TheVariants.{SgetOut, Const4, AddInt2Addr, InvokePrintln}
@@ -118,8 +119,8 @@ out_of = record { class = system_class; name = codes "out"; ty = stream_type; is
 -- The program of a plain file, as far as its run sees it: the superclasses of its classes are not looked at.
 unfoldable pub program_of : Plain → Program
 program_of plain = record {
-  classes = class_of plain.class kind.File ∷ class_of (codes "Ljava/io/PrintStream;") kind.BuiltIn ∷ class_of (codes "Ljava/lang/System;") kind.BuiltIn
-      ∷ class_of (codes "Ljava/lang/Object;") kind.BuiltIn ∷ class_of (codes "Ljava/lang/String;") kind.BuiltIn ∷ class_of (codes "[Ljava/lang/String;") kind.Array ∷ [];
+  classes = class_of plain.class kind.File ∷ class_of print_stream_name kind.BuiltIn ∷ class_of system_name kind.BuiltIn
+      ∷ class_of object_name kind.BuiltIn ∷ class_of string_name kind.BuiltIn ∷ class_of (codes "[Ljava/lang/String;") kind.Array ∷ [];
   methods = main_of plain ∷ println_of ∷ [];
   fields = out_of ∷ [];
   texts = [];

@@ -4,8 +4,9 @@ use Rattle.cc_meaning.specs.declared.value.Value.{Value}
 use Rattle.cc_meaning.specs.declared.value.Object.{Object}
 use Rattle.cc_meaning.specs.declared.report.StopCause.TheVariants as cause
 use Rattle.cc_meaning.specs.declared.report.Event.TheVariants as event
+use Rattle.cc_meaning.specs.Words.{words_of, words_of_event}
 use Rattle.cc_meaning_run.specs.World.{Setting, World, Counters, Stack, Locals}
-use Rattle.cc_meaning_run.specs.Acts.{Outcome, Next, Enter, Returns, Throws, Stops, Stuck, Act, Done, Make, Look, GetStatic, Tell, Reached, less_by, with_words, pay, object_words, print_words, with_object, with_event, found, noted, run_act}
+use Rattle.cc_meaning_run.specs.Acts.{Outcome, Next, Enter, Returns, Throws, Stops, Stuck, Act, Done, Make, Look, GetStatic, Tell, Reached, less_by, with_words, pay, with_object, with_event, found, noted, run_act}
 use Rattle.cc_meaning_run.specs.Instructions.{code_of, act_at}
 use Rattle.cc_meaning_run.specs.Eval.{End, Returned, Thrown, Stopped, Jammed, Ran, ran, Reply, Here, Answer, Hook, Go, locals_for, deeper, resume, body, replied, after, with_instructions, turn_in, turn, eval_with}
 use Rattle.cc_meaning_run.specs.Laws.{KeepsLeft, HookSpends, BoundFree}
@@ -28,10 +29,10 @@ found_within n (Some a) w go h rest = rest a
 pub run_within : (n : ℕ) (a : Act) (w : World) → Within n w → Within n (run_act a w).world
 unfolding run_act with_object with_event noted
 run_within n (Done o) w h = h
-run_within n (Make o k) w h = pay_within n (less_by (object_words o) w.counters.words) w _ h (λ w' h'. run_within n (k (length w'.objects)) (with_object w' o) h')
+run_within n (Make o k) w h = pay_within n (less_by (words_of o) w.counters.words) w _ h (λ w' h'. run_within n (k (length w'.objects)) (with_object w' o) h')
 run_within n (Look a k) w h = found_within n (slice_get w.objects a) w _ h (λ o. run_within n (k o) w h)
 run_within n (GetStatic i k) w h = found_within n (slice_get w.statics i) w _ h (λ v. run_within n (k v) w h)
-run_within n (Tell m units k) w h = pay_within n (less_by (print_words units) w.counters.words) w _ h (λ w' h'. run_within n k (with_event w' (event.Print units)) h')
+run_within n (Tell m units k) w h = pay_within n (less_by (words_of_event (event.Print units)) w.counters.words) w _ h (λ w' h'. run_within n k (with_event w' (event.Print units)) h')
 
 -- ---- two ways to go on that agree below a bound
 

@@ -1,12 +1,12 @@
 -- What an instruction does, as the steps that it asks of the world. Nothing else reads or writes the world.
-use Rattle.std.specs.Prelude.{ℕ, zero, suc, ◌+◌, List, [], ◌∷◌, ◌++◌, length, Option, Some, None, Bool, true, false, slice_get}
+use Rattle.std.specs.Prelude.{ℕ, zero, suc, List, [], ◌∷◌, ◌++◌, length, Option, Some, None, slice_get}
 use Rattle.cc_meaning.specs.declared.value.Value.{Value}
 use Rattle.cc_meaning.specs.declared.value.Object.{Object}
-use Rattle.cc_meaning.specs.declared.value.Object.TheVariants as object
 use Rattle.cc_meaning.specs.declared.report.StopCause.{StopCause}
 use Rattle.cc_meaning.specs.declared.report.StopCause.TheVariants as cause
 use Rattle.cc_meaning.specs.declared.report.Event.{Event}
 use Rattle.cc_meaning.specs.declared.report.Event.TheVariants as event
+use Rattle.cc_meaning.specs.Words.{words_of, words_of_event}
 use Rattle.cc_meaning_run.specs.World.{World, Counters, Locals}
 
 -- Where an instruction leads: on in the method, into a method's body, to an end of the method, to a stop of the run. `Stuck` is an operand of the wrong kind.
@@ -48,19 +48,6 @@ unfoldable pub pay : Option ℕ → World → (World → Reached) → Reached
 pay None w go = record { outcome = Stops cause.Heap; world = w; called = [] }
 pay (Some n) w go = go (with_words w n)
 
--- an instance or array takes two words and one per member, a text or builder two and one per unit, a class constant two, `System.out` none
-unfoldable pub object_words : Object → ℕ
-object_words object.Out = 0
-object_words (object.Instance class values) = 2 + length values
-object_words (object.Array class values) = 2 + length values
-object_words (object.Text units) = 2 + length units
-object_words (object.Builder units) = 2 + length units
-object_words (object.Constant class) = 2
-
--- a recorded print takes two words and one per unit
-unfoldable pub print_words : List ℕ → ℕ
-print_words units = 2 + length units
-
 -- ---- the steps, done in a world
 
 unfoldable pub with_object : World → Object → World
@@ -79,7 +66,7 @@ noted method r = record r { called = method ∷ r.called }
 
 unfoldable pub run_act : Act → World → Reached
 run_act (Done o) w = record { outcome = o; world = w; called = [] }
-run_act (Make o k) w = pay (less_by (object_words o) w.counters.words) w (λ w'. run_act (k (length w'.objects)) (with_object w' o))
+run_act (Make o k) w = pay (less_by (words_of o) w.counters.words) w (λ w'. run_act (k (length w'.objects)) (with_object w' o))
 run_act (Look a k) w = found (slice_get w.objects a) w (λ o. run_act (k o) w)
 run_act (GetStatic i k) w = found (slice_get w.statics i) w (λ v. run_act (k v) w)
-run_act (Tell m units k) w = pay (less_by (print_words units) w.counters.words) w (λ w'. noted m (run_act k (with_event w' (event.Print units))))
+run_act (Tell m units k) w = pay (less_by (words_of_event (event.Print units)) w.counters.words) w (λ w'. noted m (run_act k (with_event w' (event.Print units))))

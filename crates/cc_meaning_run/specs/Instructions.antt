@@ -1,5 +1,5 @@
 -- What each instruction does.
-use Rattle.std.specs.Prelude.{ℕ, ◌+◌, ℤ, List, [], ◌∷◌, ◌++◌, length, Option, Some, None, Bool, true, false, ◌&&◌, ◌==◌, slice_get, slice_set, find, codes}
+use Rattle.std.specs.Prelude.{ℕ, ◌+◌, ℤ, List, [], ◌∷◌, ◌++◌, Option, Some, None, Bool, true, false, ◌&&◌, ◌==◌, slice_get, slice_set, find, codes}
 use Rattle.std.specs.Str.{bytes_eq}
 use Rattle.std.specs.Fmt.{signed_decimal}
 use Rattle.std.specs.Int.{int_wrapping_add, w32}
@@ -16,16 +16,14 @@ use Rattle.cc_meaning.specs.declared.instruction.MethodRef.{MethodRef}
 use Rattle.cc_meaning.specs.declared.instruction.MethodRef.TheVariants as ref
 use Rattle.cc_meaning.specs.declared.instruction.Insn.{Insn}
 use Rattle.cc_meaning.specs.declared.instruction.Insn.TheVariants as insn
-use Rattle.cc_meaning.specs.declared.program.Base.{Base}
-use Rattle.cc_meaning.specs.declared.program.Base.TheVariants as base
-use Rattle.cc_meaning.specs.declared.program.DexType.{DexType}
 use Rattle.cc_meaning.specs.declared.program.Placed.{Placed}
 use Rattle.cc_meaning.specs.declared.program.Code.{Code}
-use Rattle.cc_meaning.specs.declared.program.Class.{Class}
 use Rattle.cc_meaning.specs.declared.program.MethodKind.{MethodKind}
 use Rattle.cc_meaning.specs.declared.program.MethodKind.TheVariants as kinds
 use Rattle.cc_meaning.specs.declared.program.Method.{Method}
 use Rattle.cc_meaning.specs.declared.program.Program.{Program}
+use Rattle.cc_meaning.specs.BuiltIn.{print_stream_name}
+use Rattle.cc_meaning.specs.Names.{class_name, member_name}
 use Rattle.cc_meaning_run.specs.World.{Locals}
 use Rattle.cc_meaning_run.specs.Acts.{Outcome, Next, Enter, Returns, Stuck, Act, Done, Make, Look, GetStatic, Tell}
 
@@ -67,29 +65,13 @@ set_next next locals to v = Done (Next next (record { cells = slice_set locals.c
 pub data BuiltIn : Type 0 where
   PrintlnInt : BuiltIn
 
-unfoldable pub class_name : Option Class → List ℕ
-class_name None = []
-class_name (Some class) = class.name
-
-unfoldable pub is_int : DexType → Bool
-is_int ty = is_int_base ty.base && (ty.dims == 0)
-  where
-    is_int_base : Base → Bool
-    is_int_base base.Int = true
-    is_int_base _ = false
-
-unfoldable pub takes_int : List DexType → Bool
-takes_int [] = false
-takes_int (ty ∷ []) = is_int ty
-takes_int (ty ∷ other ∷ rest) = false
-
 unfoldable pub println_if : Bool → Option BuiltIn
 println_if true = Some PrintlnInt
 println_if false = None
 
--- PrintStream's `println(I)V`, by the names of the class and of the method
+-- the built-in method of a class and a name
 unfoldable pub built_in : Program → Method → Option BuiltIn
-built_in p m = println_if (bytes_eq (class_name (slice_get p.classes m.class)) (codes "Ljava/io/PrintStream;") && bytes_eq m.name (codes "println") && takes_int m.params)
+built_in p m = println_if (bytes_eq (class_name p m.class) print_stream_name && bytes_eq (member_name p m) (codes "println(I)V"))
 
 -- the number in decimal, and a line feed
 unfoldable pub line_of : ℤ → List ℕ

@@ -1,5 +1,6 @@
 -- The run of a program on one heap, and its report.
-use Rattle.std.specs.Prelude.{ℕ, zero, suc, ◌+◌, ◌-◌, ◌*◌, ◌^◌, pos, List, [], ◌∷◌, ◌++◌, length, map, reverse, Option, Some, None, Bool, true, false, ◌&&◌, nat_le, if◌then◌else◌, replicate, slice_get, slice_set, position, unwrap_or, codes, encode_utf8, option_map}
+use Rattle.std.specs.Prelude.{ℕ, ◌-◌, List, [], ◌∷◌, ◌++◌, length, map, reverse, Option, Some, None, if◌then◌else◌, replicate, slice_get, slice_set, unwrap_or, codes, encode_utf8_all, option_map}
+use Rattle.std.specs.Char.Utf16.{utf16_chars}
 use Rattle.std.specs.Str.{bytes_eq}
 use Rattle.cc_meaning.specs.declared.value.Value.{Value}
 use Rattle.cc_meaning.specs.declared.value.Value.TheVariants as value
@@ -12,16 +13,15 @@ use Rattle.cc_meaning.specs.declared.report.Ending.{Ending}
 use Rattle.cc_meaning.specs.declared.report.Ending.TheVariants as ending
 use Rattle.cc_meaning.specs.declared.report.Report.{Report}
 use Rattle.cc_meaning.specs.declared.report.Limits.{Limits}
-use Rattle.cc_meaning.specs.declared.program.Base.{Base}
-use Rattle.cc_meaning.specs.declared.program.Base.TheVariants as base
-use Rattle.cc_meaning.specs.declared.program.DexType.{DexType}
-use Rattle.cc_meaning.specs.declared.program.Class.{Class}
 use Rattle.cc_meaning.specs.declared.program.Field.{Field}
 use Rattle.cc_meaning.specs.declared.program.Method.{Method}
 use Rattle.cc_meaning.specs.declared.program.Program.{Program}
+use Rattle.cc_meaning.specs.BuiltIn.{system_out_name}
+use Rattle.cc_meaning.specs.Kinds.{kind_of, zero_of}
+use Rattle.cc_meaning.specs.Lookup.{class_named}
+use Rattle.cc_meaning.specs.Names.{field_name}
 use Rattle.cc_meaning_run.specs.World.{Setting, World, Counters, Stack}
 use Rattle.cc_meaning_run.specs.Acts.{Outcome, Returns, Stops, Act, Done, Make, Reached, run_act}
-use Rattle.cc_meaning_run.specs.Instructions.{class_name}
 use Rattle.cc_meaning_run.specs.Eval.{End, Returned, Thrown, Stopped, Jammed, Ran, ran, Hook, Go, body, eval_with}
 use Rattle.cc_meaning_run.specs.Invocations.{Invocation, Invocations, onlooker, entered}
 
@@ -31,24 +31,9 @@ use Rattle.cc_meaning_run.specs.Invocations.{Invocation, Invocations, onlooker, 
 abbrev pub out_object : ℕ
 out_object = 0
 
-unfoldable pub is_out_field : Program → Field → Bool
-is_out_field p f = f.is_static && bytes_eq (class_name (slice_get p.classes f.class)) (codes "Ljava/lang/System;") && bytes_eq f.name (codes "out")
-
-unfoldable pub zero_of_base : Base → Value
-zero_of_base base.Long = value.Long (pos 0)
-zero_of_base (base.Class class) = value.Obj None
-zero_of_base _ = value.Int (pos 0)
-
--- what a field holds before anything is written: zero, or null
-unfoldable pub zero_of : DexType → Value
-zero_of ty = of_dims ty.dims
-  where
-    of_dims : ℕ → Value
-    of_dims zero = zero_of_base ty.base
-    of_dims (suc n) = value.Obj None
-
+-- `System.out` holds its object; any other field holds zero or null before it is written
 unfoldable pub opening_static : Program → Field → Value
-opening_static p f = if is_out_field p f then value.Obj (Some out_object) else zero_of f.ty
+opening_static p f = if bytes_eq (field_name p f) system_out_name then value.Obj (Some out_object) else zero_of (kind_of f.ty)
 
 -- the one object of a new world is `System.out`
 unfoldable pub opening_world : Program → Limits → World
@@ -67,8 +52,9 @@ unfoldable pub make_texts : List (List ℕ) → (List Value → Act) → Act
 make_texts [] k = k []
 make_texts (units ∷ rest) k = Make (object.Text units) (λ a. make_texts rest (λ vs. k (value.Obj (Some a) ∷ vs)))
 
+-- the class of the array of a program's arguments
 unfoldable pub texts_class : Program → ℕ
-texts_class p = unwrap_or (position (λ (c : Class). bytes_eq c.name (codes "[Ljava/lang/String;")) p.classes) 0
+texts_class p = unwrap_or (class_named (codes "[Ljava/lang/String;") p) 0
 
 unfoldable pub make_args : Program → List (List ℕ) → Act
 make_args p texts = make_texts texts (λ vs. Make (object.Array (texts_class p) vs) (λ a. Done (Returns (Some (value.Obj (Some a))))))
@@ -100,29 +86,14 @@ run_with hook s args limits t = begin_in (eval_with hook s limits.instructions) 
 
 -- ---- the report
 
--- a unit of UTF-16 that begins, or ends, a pair
-unfoldable pub is_high : ℕ → Bool
-is_high u = nat_le 55296 u && nat_le u 56319
-
-unfoldable pub is_low : ℕ → Bool
-is_low u = nat_le 56320 u && nat_le u 57343
-
--- an unpaired surrogate is printed as a question mark
-unfoldable pub utf8_unit : ℕ → List ℕ
-utf8_unit u = if nat_le 55296 u && nat_le u 57343 then 63 ∷ [] else encode_utf8 u
-
-unfoldable pub utf8_pair : ℕ → ℕ → List ℕ
-utf8_pair high low = encode_utf8 (65536 + (high - 55296) * 1024 + (low - 56320))
-
-unfoldable pub utf8_units : List ℕ → List ℕ
-utf8_units [] = []
-utf8_units (u ∷ []) = utf8_unit u
-utf8_units (u ∷ v ∷ rest) = if is_high u && is_low v then utf8_pair u v ++ utf8_units rest else utf8_unit u ++ utf8_units (v ∷ rest)
+-- a text in UTF-8, with a question mark for each unit of a pair that has no partner
+unfoldable pub utf8_of : List ℕ → List ℕ
+utf8_of units = encode_utf8_all (map (λ c. unwrap_or c 63) (utf16_chars units))
 
 -- the output is the UTF-8 of what was printed, each text by itself
 unfoldable pub output_of : List Event → List ℕ
 output_of [] = []
-output_of (event.Print units ∷ rest) = utf8_units units ++ output_of rest
+output_of (event.Print units ∷ rest) = utf8_of units ++ output_of rest
 output_of (event.Call m args answer ∷ rest) = output_of rest
 
 unfoldable pub calls_of : List Event → List Event

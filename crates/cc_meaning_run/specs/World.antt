@@ -13,7 +13,7 @@ pub record Setting : Type 0 where
   pub program : Program
   pub script : Script
 
--- the instructions and the words that are left, and the status of each class of the file: 0 not started, 1 in progress, 2 ready, 3 failed
+-- the instructions and the words that are left, and the status of each class, at its number: 0 not started, 1 in progress, 2 ready, 3 failed
 pub record Counters : Type 0 where
   pub instructions : ℕ
   pub words : ℕ
