@@ -1,0 +1,4 @@
+pub mod Printing
+pub mod Showing
+pub mod Planning
+pub mod Statuses

@@ -1,0 +1,4 @@
+pub mod Faults
+pub mod Plans
+pub mod Runs
+pub mod Statuses

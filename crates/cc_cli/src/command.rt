@@ -1,0 +1,88 @@
+//! The commands: what each comes to, before anything is written.
+
+ghost use Rattle.std.specs.Prelude.{◌≡◌, ◌⊎◌, IfOk, IfSome, string_bytes, option_map, map};
+ghost use Rattle.cc_outside.specs.Shelves.{Counts, Known, NeverFall};
+ghost use Rattle.cc_cli.specs.Plans.{file_named, BytesPlan, RunPlan, printed_plan};
+ghost use Rattle.cc_cli.specs.Runs.{CallPlan, WordsPlan};
+
+use crate::fault::Fault;
+use crate::plain;
+use cc_meaning::lists::Bytes;
+use cc_meaning_plain::{Plain, law_plain_returns};
+use cc_outside::{ReadEnd, Shelf};
+use cc_plan::Plan;
+use std::alloc::{AllocError, Global};
+
+/// The longest file that is read, in bytes.
+const LONGEST_FILE: u64 = 8_388_608;
+
+/// The file in the words `run FILE`.
+fn file_named(words: &[String]) -> Option<&str>
+    ensures { option_map (λ name. name.now) result ≡ file_named (map string_bytes words.now) }
+{
+    match words {
+        [command, name] if command.as_str() == "run" => Some(name.as_str()),
+        _ => None,
+    }
+}
+
+/// What a plain file prints, and the line that it returned.
+fn ran_plan(alloc: Global, plain: &Plain) -> Result<Plan, AllocError>
+    ensures { IfOk result (λ plan. plan ≡ printed_plan plain.now) }
+{
+    Ok(Plan {
+        status: 0,
+        out: Bytes::from_vec(plain::printed(alloc, plain)?),
+        notes: Bytes::from_slice(alloc, b"end return\n")?,
+    })
+}
+
+/// Runs the program in a file that was read.
+fn run_bytes(alloc: Global, name: &str, file: &[u8]) -> Result<Plan, AllocError>
+    ensures { IfOk result (λ plan. BytesPlan name.now file.now plan) }
+{
+    law_plain_returns();
+    match plain::read_plain(alloc, file)? {
+        Some(plain) => ran_plan(alloc, &plain),
+        None => Fault::NotBuilt.plan(alloc, name),
+    }
+}
+
+/// Reads a file and runs its program.
+fn run_file<S: Shelf>(alloc: Global, name: &str, shelf: &mut S) -> Result<Plan, AllocError>
+    ensures plan { IfOk result (λ plan. RunPlan (S.known shelf.old) (S.counts shelf.old) name.now (S.counts shelf.new) plan) }
+    ensures known { S.known shelf.new ≡ S.known shelf.old }
+    ensures counts { NeverFall (S.counts shelf.old) (S.counts shelf.new) }
+{
+    match shelf.read(name, LONGEST_FILE) {
+        Ok(bytes) => run_bytes(alloc, name, bytes.as_slice()),
+        Err(ReadEnd::Failed) => Fault::ReadFault.plan(alloc, name),
+        Err(ReadEnd::Absent) => Fault::Absent.plan(alloc, name),
+        Err(ReadEnd::TooLarge) => Fault::TooLarge.plan(alloc, name),
+        Err(ReadEnd::Memory) => Err(AllocError),
+    }
+}
+
+/// Does what the words call for, but for the writing.
+fn plan_of<S: Shelf>(alloc: Global, words: &[String], shelf: &mut S) -> Result<Plan, AllocError>
+    ensures plan { IfOk result (λ plan. CallPlan (file_named (map string_bytes words.now)) (S.known shelf.old) (S.counts shelf.old) (S.counts shelf.new) plan) }
+    ensures known { S.known shelf.new ≡ S.known shelf.old }
+    ensures counts { NeverFall (S.counts shelf.old) (S.counts shelf.new) }
+{
+    match file_named(words) {
+        Some(name) => run_file(alloc, name, shelf),
+        None => Fault::Usage.plan(alloc, ""),
+    }
+}
+
+/// The same, or what want of memory comes to; none where there is no memory even for that.
+pub fn plan<S: Shelf>(alloc: Global, words: &[String], shelf: &mut S) -> Option<Plan>
+    ensures plan { IfSome result (λ plan. WordsPlan (map string_bytes words.now) (S.known shelf.old) (S.counts shelf.old) (S.counts shelf.new) plan) }
+    ensures known { S.known shelf.new ≡ S.known shelf.old }
+    ensures counts { NeverFall (S.counts shelf.old) (S.counts shelf.new) }
+{
+    match plan_of(alloc, words, shelf) {
+        Ok(plan) => Some(plan),
+        Err(_) => Fault::Memory.plan(alloc, "").ok(),
+    }
+}

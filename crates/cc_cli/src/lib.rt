@@ -1,0 +1,10 @@
+//! CloneCloud as one call, over whatever the outside is.
+#![tactic(auto)]
+
+mod command;
+mod fault;
+mod plain;
+mod run;
+mod shown;
+
+pub use run::run_words;
