@@ -1,0 +1,4 @@
+//! The readers of plain files.
+#![tactic(auto)]
+
+pub mod plain;

@@ -1,0 +1,3 @@
+//! The reader of plain files.
+
+mod bytes;
