@@ -1,3 +1,6 @@
 //! The reader of plain files.
 
 mod bytes;
+mod header;
+mod names;
+mod stubs;
