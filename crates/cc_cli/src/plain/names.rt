@@ -4,7 +4,7 @@ ghost use Rattle.std.specs.Prelude.{◌≡◌, ◌+◌, ◌≤◌, ◌↔◌, �
 ghost use Rattle.cc_meaning_file.specs.Numbers.{Within, Stands};
 ghost use Rattle.cc_meaning_file.specs.Texts.{SpellsText};
 ghost use Rattle.cc_meaning_plain.specs.Tables.{IsHeader, HasTables};
-ghost use Rattle.cc_meaning_plain.specs.Names.{TextRow, TypeRow, OneType, PrototypeRow, IsOutField, IsPrintln};
+ghost use Rattle.cc_meaning_plain.specs.Names.{TextRow, TypeRow, OneType, PrototypeRow, FieldRow, MethodRow, IsOutField, IsPrintln};
 ghost use Rattle.cc_cli.specs.Ascii.{IsAsciiName};
 
 use super::bytes::{u16_at, u32_at};
@@ -94,20 +94,69 @@ fn is_prototype_row(file: &[u8], row: u32, gives: &[u8], takes: &[u8]) -> bool
     is_type_row(file, u32_at(file, at + 4), gives) && is_one_type(file, u32_at(file, at + 8), takes)
 }
 
-/// Whether a row of fields is `System.out`.
-pub fn is_out_field(file: &[u8], row: u16) -> bool
+/// Whether a row of fields has this class, type and name.
+fn is_field_row(file: &[u8], row: u16, class: &[u8], kind: &[u8], name: &[u8]) -> bool
     requires header { IsHeader file.now }
     requires tables { HasTables file.now }
-    ensures { IsTrue result ↔ IsOutField file.now row }
+    requires ascii_class { IsAsciiName class.now }
+    requires ascii_kind { IsAsciiName kind.now }
+    requires ascii_name { IsAsciiName name.now }
+    ensures { IsTrue result ↔ FieldRow file.now row class.now kind.now name.now }
 {
     let row = u32::from(row);
     if row >= row_count(file, Table::Fields) {
         return false;
     }
     let at = row_at(file, Table::Fields, row);
-    is_type_row(file, u32::from(u16_at(file, at)), b"Ljava/lang/System;")
-        && is_type_row(file, u32::from(u16_at(file, at + 2)), b"Ljava/io/PrintStream;")
-        && is_text_row(file, u32_at(file, at + 4), b"out")
+    if !is_type_row(file, u32::from(u16_at(file, at)), class) {
+        return false;
+    }
+    is_type_row(file, u32::from(u16_at(file, at + 2)), kind)
+        && is_text_row(file, u32_at(file, at + 4), name)
+}
+
+/// Whether a row of methods has this class, result, one parameter and name.
+fn is_method_row(
+    file: &[u8],
+    row: u16,
+    class: &[u8],
+    gives: &[u8],
+    takes: &[u8],
+    name: &[u8],
+) -> bool
+    requires header { IsHeader file.now }
+    requires tables { HasTables file.now }
+    requires ascii_class { IsAsciiName class.now }
+    requires ascii_gives { IsAsciiName gives.now }
+    requires ascii_takes { IsAsciiName takes.now }
+    requires ascii_name { IsAsciiName name.now }
+    ensures { IsTrue result ↔ MethodRow file.now row class.now gives.now takes.now name.now }
+{
+    let row = u32::from(row);
+    if row >= row_count(file, Table::Methods) {
+        return false;
+    }
+    let at = row_at(file, Table::Methods, row);
+    if !is_type_row(file, u32::from(u16_at(file, at)), class) {
+        return false;
+    }
+    is_prototype_row(file, u32::from(u16_at(file, at + 2)), gives, takes)
+        && is_text_row(file, u32_at(file, at + 4), name)
+}
+
+/// Whether a row of fields is `System.out`.
+pub fn is_out_field(file: &[u8], row: u16) -> bool
+    requires header { IsHeader file.now }
+    requires tables { HasTables file.now }
+    ensures { IsTrue result ↔ IsOutField file.now row }
+{
+    is_field_row(
+        file,
+        row,
+        b"Ljava/lang/System;",
+        b"Ljava/io/PrintStream;",
+        b"out",
+    )
 }
 
 /// Whether a row of methods is `println(int)` of PrintStream.
@@ -116,12 +165,5 @@ pub fn is_println(file: &[u8], row: u16) -> bool
     requires tables { HasTables file.now }
     ensures { IsTrue result ↔ IsPrintln file.now row }
 {
-    let row = u32::from(row);
-    if row >= row_count(file, Table::Methods) {
-        return false;
-    }
-    let at = row_at(file, Table::Methods, row);
-    is_type_row(file, u32::from(u16_at(file, at)), b"Ljava/io/PrintStream;")
-        && is_prototype_row(file, u32::from(u16_at(file, at + 2)), b"V", b"I")
-        && is_text_row(file, u32_at(file, at + 4), b"println")
+    is_method_row(file, row, b"Ljava/io/PrintStream;", b"V", b"I", b"println")
 }

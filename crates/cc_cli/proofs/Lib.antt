@@ -1,0 +1,3 @@
+-- what the readers' proofs share
+pub mod RowLemmas
+pub mod TextLemmas
