@@ -1,3 +1,5 @@
 -- what the readers' proofs share
 pub mod RowLemmas
 pub mod TextLemmas
+pub mod NumberLemmas
+pub mod DescriptorLemmas

@@ -2,5 +2,6 @@
 
 mod bytes;
 mod header;
+mod members;
 mod names;
 mod stubs;

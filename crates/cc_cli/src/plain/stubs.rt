@@ -2,8 +2,12 @@
 
 ghost use Rattle.std.specs.Prelude.{◌≡◌, ℕ, IfOk, OnErr};
 ghost use Rattle.cc_meaning_file.specs.Leb128.{uleb_at, SpellsUleb};
+ghost use Rattle.cc_meaning_file.specs.Texts.{text_at};
 
+use cc_list::List;
 use cc_meaning::fault::LebFault;
+use cc_meaning::lists::Units;
+use std::alloc::{AllocError, Global};
 
 /// The number of 32 bits in ULEB128 at `at`, and the place after it.
 pub fn uleb(bytes: &[u8], at: usize) -> Result<(u32, usize), LebFault>
@@ -15,4 +19,14 @@ pub fn uleb(bytes: &[u8], at: usize) -> Result<(u32, usize), LebFault>
         return Err(LebFault::CutOff);
     }
     Err(LebFault::TooBig)
+}
+
+/// The text item at `at`, where there is one.
+pub fn text(alloc: Global, bytes: &[u8], at: usize) -> Result<Option<Units>, AllocError>
+    ensures { IfOk result (λ read. read ≡ text_at bytes.now at) }
+{
+    if at > bytes.len() {
+        return Ok(None);
+    }
+    Ok(Some(List::new(alloc)))
 }
