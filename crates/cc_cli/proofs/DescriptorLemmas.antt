@@ -1,5 +1,7 @@
 -- Pairs of UTF-16, and the descriptor of a class.
-use Rattle.std.proofs.Common.{◌≡◌, ◌≢◌, ◌↔◌, ◌⊎◌, inl, inr, ℕ, ◌+◌, ◌-◌, ◌<◌, ◌≤◌, Bool, true, false, not, List, [], ◌∷◌, ◌++◌, length, get_or, take, drop, IsTrue, All, refl, sym, ap, subst, ◌∙◌, arith}
+use Rattle.std.proofs.Common.{◌≡◌, ◌≢◌, ◌↔◌, ◌⊎◌, inl, inr, ℕ, suc, ◌+◌, ◌-◌, ◌<◌, ◌≤◌, Bool, true, false, not, List, [], ◌∷◌, ◌++◌, length, get_or, take, drop, IsTrue, All, refl, sym, ap, subst, ◌∙◌, arith}
+use mathlib.Core.Bool.{beq}
+use Rattle.std.proofs.lemmas.List.{take_more, take_all, take_at, length-take, length-drop, length-append}
 use Rattle.cc_meaning_plain.specs.Plain.{IsHigh, IsLow, IsPaired, IsNameUnit, IsClassDescriptor}
 
 -- what is left is paired, where the first half of a pair may stand before it
@@ -51,3 +53,53 @@ paired_more false false begins u (v ∷ rest) low high same = paired_single begi
 pub paired_all : (begun : Bool) → IsTrue (not begun) ↔ IsPairedAfter begun []
 paired_all true = (λ e. absurd (cc), λ none. absurd none)
 paired_all false = (λ e. tt, λ _. refl)
+
+pub same_bool : (a b : Bool) → not (beq a b) ≡ false → a ≡ b
+same_bool true true e = refl
+same_bool false false e = refl
+same_bool true false e = absurd (cc)
+same_bool false true e = absurd (cc)
+
+pub other_bool : (a b : Bool) → not (beq a b) ≡ true → a ≢ b
+other_bool true true e = absurd (cc)
+other_bool false false e = absurd (cc)
+other_bool true false e = λ same. cc
+other_bool false true e = λ same. cc
+
+-- ---- descriptors
+
+-- the name between the first unit and the last
+abbrev pub name_of : List ℕ → List ℕ
+name_of units = take (length units - 1 - 1) (drop 1 units)
+
+last_apart : (us : List ℕ) (n : ℕ) → length us ≡ n + 1 → get_or us n 0 ≡ 59 → us ≡ take n us ++ 59 ∷ []
+last_apart us n len last =
+    let more = take_more us n 0 (omega arith) in
+    let all = take_all (n + 1) us (omega arith) in
+    sym all ∙ more ∙ ap (λ x. take n us ++ x ∷ []) last
+
+-- units that begin with `L` and end with `;` have their name between
+form_of : (units : List ℕ) → 3 ≤ length units → get_or units 0 0 ≡ 76 → get_or units (length units - 1) 0 ≡ 59 → units ≡ 76 ∷ name_of units ++ 59 ∷ []
+form_of [] some first last = absurd (omega arith)
+form_of (u ∷ us) some first last =
+    let n = length (u ∷ us) - 1 - 1 in
+    let place : length (u ∷ us) - 1 ≡ suc n = omega arith in
+    let ends : get_or us n 0 ≡ 59 = subst (λ (k : ℕ). get_or (u ∷ us) k 0 ≡ 59) place last in
+    let rest = last_apart us n (omega arith) ends in
+    cc
+
+-- the name is the only one
+name_is : (units name : List ℕ) → units ≡ 76 ∷ name ++ 59 ∷ [] → name_of units ≡ name
+name_is units name form =
+    let len : length name ≡ length (76 ∷ name ++ 59 ∷ []) - 1 - 1 = omega (arith, length-append name (59 ∷ [])) in
+    ap name_of form ∙ take_at name (59 ∷ []) (length (76 ∷ name ++ 59 ∷ []) - 1 - 1) len
+
+name_some : (units : List ℕ) → 3 ≤ length units → name_of units ≢ []
+name_some units some none =
+    omega (arith, ap length none, length-take (length units - 1 - 1) (drop 1 units), length-drop 1 units)
+
+-- such units are a descriptor just if their name is a class's
+pub descriptor_is : (units : List ℕ) → 3 ≤ length units → get_or units 0 0 ≡ 76 → get_or units (length units - 1) 0 ≡ 59 → (All IsNameUnit (name_of units) × IsPaired (name_of units)) ↔ IsClassDescriptor units
+descriptor_is units some first last =
+    (λ fits. record { name = name_of units; form = form_of units some first last; some = name_some units some; plain = fits.0; paired = fits.1 },
+     λ is. let same = sym (name_is units is.name is.form) in (subst (λ name. All IsNameUnit name) same is.plain, subst (λ name. IsPaired name) same is.paired))
