@@ -2,11 +2,12 @@
 #![tactic(auto)]
 
 ghost use Rattle.cc_meaning_plain.specs.Worked.{TakesSix, TakesSixWords, IsOneInvocation};
+ghost use Rattle.cc_meaning_plain.specs.Laws.{CodeOnce};
 
 mod plain;
 mod table;
 
-pub use plain::{Plain, PlainInsn, PlainInsns};
+pub use plain::{Held, Plain, PlainInsn, PlainInsns};
 pub use table::Table;
 
 /// The meaning of a run, at a worked example: 3 and 4 are added, and the sum is printed.
@@ -15,5 +16,10 @@ pub fn worked_example()
     ensures instructions { TakesSix }
     ensures words { TakesSixWords }
     ensures invocations { IsOneInvocation }
-{
-}
+{}
+
+/// At a place stands one code item of a plain `main` at most.
+#[tactic(auto, using(crate::proofs::Once::code_once))]
+pub fn law_code_once()
+    ensures { CodeOnce }
+{}
