@@ -4,10 +4,10 @@ use Rattle.cc_meaning_file.specs.Numbers.{u16_at, u32_at}
 use Rattle.cc_meaning_plain.specs.declared.plain.PlainInsn.{PlainInsn}
 use Rattle.cc_meaning_plain.specs.declared.plain.PlainInsn.TheVariants.{SgetOut, Const4, AddInt2Addr, InvokePrintln}
 use Rattle.cc_meaning_plain.specs.Code.{units_of, SpellsInsn, SpellsInsns}
-use Rattle.cc_meaning_plain.specs.Laws.{CodeOnce}
+use Rattle.cc_meaning_plain.specs.Laws.{InsnOnce, InsnsOnce, CodeOnce}
 
 -- the low byte of an instruction's first unit
-abbrev pub opcode_of : PlainInsn → ℕ
+abbrev opcode_of : PlainInsn → ℕ
 opcode_of (SgetOut to) = 98
 opcode_of (Const4 to value) = 18
 opcode_of (AddInt2Addr to other) = 176
@@ -22,7 +22,7 @@ sget_opcode unit to e = omega arith
 add_opcode : (unit to other : ℕ) → unit ≡ 176 + 256 * to + 4096 * other → unit % 256 ≡ 176
 add_opcode unit to other e = omega arith
 
-pub opcode : (file : List ℕ) (registers at : ℕ) (insn : PlainInsn) → SpellsInsn file registers at insn → u16_at file at % 256 ≡ opcode_of insn
+opcode : (file : List ℕ) (registers at : ℕ) (insn : PlainInsn) → SpellsInsn file registers at insn → u16_at file at % 256 ≡ opcode_of insn
 opcode file registers at (SgetOut to) h = sget_opcode (u16_at file at) to h.0
 opcode file registers at (Const4 to value) h = const4_opcode (u16_at file at) to h.0
 opcode file registers at (AddInt2Addr to other) h = add_opcode (u16_at file at) to other h.0
@@ -38,7 +38,7 @@ same_opcode file registers at x y hx hy =
 same_pair : (a b c d : ℕ) → a < 16 → c < 16 → a + 16 * b ≡ c + 16 * d → (a ≡ c) × (b ≡ d)
 same_pair a b c d ha hc e = (omega arith, omega arith)
 
-pub insn_once : (file : List ℕ) (registers at : ℕ) (x y : PlainInsn) → SpellsInsn file registers at x → SpellsInsn file registers at y → x ≡ y
+pub insn_once : InsnOnce
 insn_once file registers at (SgetOut to) (SgetOut to') h h' = let e : to ≡ to' = omega (arith, h.0, h'.0) in cc
 insn_once file registers at (SgetOut to) (Const4 to' value') h h' = absurd (omega (arith, same_opcode file registers at (SgetOut to) (Const4 to' value') h h'))
 insn_once file registers at (SgetOut to) (AddInt2Addr to' other') h h' = absurd (omega (arith, same_opcode file registers at (SgetOut to) (AddInt2Addr to' other') h h'))
@@ -74,12 +74,12 @@ units_some (AddInt2Addr to other) = omega arith
 units_some (InvokePrintln stream number) = omega arith
 
 -- there is at least the unit of `return-void`
-pub insns_some : (file : List ℕ) (registers at count : ℕ) (insns : List PlainInsn) → SpellsInsns file registers at count insns → 1 ≤ count
+insns_some : (file : List ℕ) (registers at count : ℕ) (insns : List PlainInsn) → SpellsInsns file registers at count insns → 1 ≤ count
 insns_some file registers at count [] h = omega (arith, h.0)
 insns_some file registers at count (insn ∷ rest) h = omega (arith, h.1, units_some insn)
 
 -- the units behind an instruction, where another name of it stands
-pub insns_behind : (file : List ℕ) (registers at count left : ℕ) (x y : PlainInsn) (rest : List PlainInsn) →
+insns_behind : (file : List ℕ) (registers at count left : ℕ) (x y : PlainInsn) (rest : List PlainInsn) →
     x ≡ y → count ≡ units_of x + left → (h : SpellsInsns file registers at count (y ∷ rest)) → SpellsInsns file registers (at + 2 * units_of x) left rest
 insns_behind file registers at count left x y rest e f h =
     let units : units_of x ≡ units_of y = ap units_of e in
@@ -87,7 +87,7 @@ insns_behind file registers at count left x y rest e f h =
     let here : SpellsInsns file registers (at + 2 * units_of x) h.0 rest = subst (λ u. SpellsInsns file registers (at + 2 * u) h.0 rest) (sym units) h.3 in
     subst (λ n. SpellsInsns file registers (at + 2 * units_of x) n rest) lefts here
 
-pub insns_once : (file : List ℕ) (registers at count : ℕ) (xs ys : List PlainInsn) → SpellsInsns file registers at count xs → SpellsInsns file registers at count ys → xs ≡ ys
+pub insns_once : InsnsOnce
 insns_once file registers at count [] [] h h' = refl
 insns_once file registers at count [] (y ∷ ys) h h' = absurd (omega (arith, h.0, h'.1, units_some y, insns_some file registers _ _ ys h'.3))
 insns_once file registers at count (x ∷ xs) [] h h' = absurd (omega (arith, h'.0, h.1, units_some x, insns_some file registers _ _ xs h.3))

@@ -6,7 +6,7 @@ use Rattle.cc_meaning.specs.declared.report.Limits.{Limits}
 use Rattle.cc_meaning_run.specs.Local.{local}
 use Rattle.cc_meaning_plain.specs.declared.plain.Plain.{Plain}
 use Rattle.cc_meaning_plain.specs.declared.plain.PlainInsn.{PlainInsn}
-use Rattle.cc_meaning_plain.specs.Code.{IsPlainCode}
+use Rattle.cc_meaning_plain.specs.Code.{SpellsInsn, SpellsInsns, IsPlainCode}
 use Rattle.cc_meaning_plain.specs.Plain.{IsPlain}
 use Rattle.cc_meaning_plain.specs.Program.{setting_of}
 use Rattle.cc_meaning_plain.specs.Text.{text_of}
@@ -30,6 +30,15 @@ PlainReturns = (file : List ℕ) (plain : Plain) → IsPlain file plain →
 -- a file is plain in one way at most
 abbrev pub PlainOnce : Type 0
 PlainOnce = (file : List ℕ) (first second : Plain) → IsPlain file first → IsPlain file second → first ≡ second
+
+-- at a place stands one instruction at most
+abbrev pub InsnOnce : Type 0
+InsnOnce = (file : List ℕ) (registers at : ℕ) (first second : PlainInsn) → SpellsInsn file registers at first → SpellsInsn file registers at second → first ≡ second
+
+-- in so many units stands one list of instructions at most
+abbrev pub InsnsOnce : Type 0
+InsnsOnce = (file : List ℕ) (registers at count : ℕ) (first second : List PlainInsn) →
+    SpellsInsns file registers at count first → SpellsInsns file registers at count second → first ≡ second
 
 -- at a place stands one code item of a plain main at most
 abbrev pub CodeOnce : Type 0

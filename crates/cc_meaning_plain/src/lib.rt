@@ -2,7 +2,7 @@
 #![tactic(auto)]
 
 ghost use Rattle.cc_meaning_plain.specs.Worked.{TakesSix, TakesSixWords, IsOneInvocation};
-ghost use Rattle.cc_meaning_plain.specs.Laws.{CodeOnce};
+ghost use Rattle.cc_meaning_plain.specs.Laws.{InsnOnce, InsnsOnce, CodeOnce};
 
 mod plain;
 mod table;
@@ -17,6 +17,20 @@ pub fn worked_example()
     ensures words { TakesSixWords }
     ensures invocations { IsOneInvocation }
 {}
+
+/// At a place stands one instruction at most.
+#[tactic(auto, using(crate::proofs::Once::insn_once))]
+pub fn law_insn_once()
+    ensures { InsnOnce }
+{
+}
+
+/// In so many units stands one list of instructions at most.
+#[tactic(auto, using(crate::proofs::Once::insns_once))]
+pub fn law_insns_once()
+    ensures { InsnsOnce }
+{
+}
 
 /// At a place stands one code item of a plain `main` at most.
 #[tactic(auto, using(crate::proofs::Once::code_once))]
