@@ -1,0 +1,3 @@
+pub mod UsesLemmas
+pub mod InsnLemmas
+pub mod CodeLemmas
