@@ -1,2 +1,3 @@
-pub mod Uses
+pub mod Ascii
 pub mod Code
+pub mod Uses

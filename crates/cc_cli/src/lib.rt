@@ -1,4 +1,4 @@
-//! The program.
+//! The readers of plain files.
 #![tactic(auto)]
 
 pub mod plain;

@@ -1,7 +1,9 @@
 //! The reader of plain files.
 
-pub mod bytes;
-pub mod code;
-pub mod instructions;
-pub mod names;
-pub mod uses;
+mod bytes;
+mod code;
+mod header;
+mod instructions;
+mod names;
+mod stubs;
+mod uses;

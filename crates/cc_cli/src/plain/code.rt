@@ -3,13 +3,13 @@
 ghost use Rattle.std.specs.Prelude.{◌≡◌, ◌↔◌, ℕ, List, IsTrue, IfOk, MatchOption};
 ghost use Rattle.cc_meaning_file.specs.Numbers.{Within};
 ghost use Rattle.cc_meaning_plain.specs.declared.plain.PlainInsn.{PlainInsn};
-ghost use Rattle.cc_meaning_plain.specs.Tables.{HasTables};
+ghost use Rattle.cc_meaning_plain.specs.Tables.{IsHeader, HasTables};
 ghost use Rattle.cc_meaning_plain.specs.Code.{IsPlainCode};
 ghost use Rattle.cc_cli.specs.Code.{IsPlainHead};
 
-use crate::plain::bytes::{u16_at, u32_at};
-use crate::plain::instructions::read_insns;
-use crate::plain::uses::uses_what_is_set;
+use super::bytes::{u16_at, u32_at};
+use super::instructions::read_insns;
+use super::uses::uses_what_is_set;
 use cc_meaning_plain::{PlainInsns, law_insns_once};
 use std::alloc::{AllocError, Global};
 
@@ -34,6 +34,7 @@ fn is_plain_head(file: &[u8], at: usize) -> bool
 
 /// The code item of a plain `main` at `at`, or `None` where none stands there.
 pub fn read_code(alloc: Global, file: &[u8], at: u32) -> Result<Option<PlainCode>, AllocError>
+    requires header { IsHeader file.now }
     requires tables { HasTables file.now }
     ensures { IfOk result (λ read. MatchOption read
         ((registers : ℕ) (insns : List PlainInsn) → IsPlainCode file.now at registers insns → ⊥)

@@ -4,16 +4,17 @@ ghost use Rattle.std.specs.Prelude.{◌≡◌, ◌+◌, ◌*◌, ◌/◌, ◌%�
 ghost use Rattle.std.specs.Prelude.{List, IfOk, MatchOption};
 ghost use Rattle.cc_meaning_file.specs.Numbers.{u16_at, Within};
 ghost use Rattle.cc_meaning_plain.specs.declared.plain.PlainInsn.{PlainInsn};
-ghost use Rattle.cc_meaning_plain.specs.Tables.{HasTables};
+ghost use Rattle.cc_meaning_plain.specs.Tables.{IsHeader, HasTables};
 ghost use Rattle.cc_meaning_plain.specs.Code.{units_of, signed_nibble, SpellsInsns};
 ghost use Rattle.cc_cli.specs.Code.{IsInsnOf, IsInsnWithin};
 
-use crate::plain::bytes::u16_at;
-use crate::plain::names::{is_out_field, is_println};
+use super::bytes::u16_at;
+use super::names::{is_out_field, is_println};
 use cc_meaning_plain::{PlainInsn, PlainInsns, law_insn_once};
 use std::alloc::{AllocError, Global};
 
 fn read_sget_out(file: &[u8], registers: u16, at: usize) -> Option<PlainInsn>
+    requires header { IsHeader file.now }
     requires tables { HasTables file.now }
     requires within { Within file.now at 4 }
     requires opcode { u16_at file.now at % 256 ≡ 98 }
@@ -76,6 +77,7 @@ fn read_add_int2addr(file: &[u8], registers: u16, at: usize) -> Option<PlainInsn
 }
 
 fn read_invoke_println(file: &[u8], registers: u16, at: usize) -> Option<PlainInsn>
+    requires header { IsHeader file.now }
     requires tables { HasTables file.now }
     requires within { Within file.now at 6 }
     requires opcode { u16_at file.now at % 256 ≡ 110 }
@@ -100,6 +102,7 @@ fn read_invoke_println(file: &[u8], registers: u16, at: usize) -> Option<PlainIn
 
 /// The instruction at `at`, if it is one of those that a plain file may have and lies within the units that are left.
 fn read_insn(file: &[u8], registers: u16, at: usize, left: usize) -> Option<PlainInsn>
+    requires header { IsHeader file.now }
     requires tables { HasTables file.now }
     requires within { Within file.now at (2 * left) }
     requires some { 1 ≤ left }
@@ -141,6 +144,7 @@ pub fn read_insns(
     start: usize,
     count: usize,
 ) -> Result<Option<PlainInsns>, AllocError>
+    requires header { IsHeader file.now }
     requires tables { HasTables file.now }
     requires within { Within file.now start (2 * count) }
     ensures { IfOk result (λ read. MatchOption read
