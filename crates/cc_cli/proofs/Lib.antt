@@ -3,3 +3,6 @@ pub mod RowLemmas
 pub mod TextLemmas
 pub mod NumberLemmas
 pub mod DescriptorLemmas
+pub mod InsnLemmas
+pub mod CodeLemmas
+pub mod UsesLemmas

@@ -1,7 +1,13 @@
 //! The reader of plain files.
 
 mod bytes;
+mod code;
 mod header;
+mod instructions;
 mod members;
 mod names;
+mod reader;
 mod stubs;
+mod uses;
+
+pub use reader::read_plain;

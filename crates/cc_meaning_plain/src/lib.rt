@@ -2,11 +2,12 @@
 #![tactic(auto)]
 
 ghost use Rattle.cc_meaning_plain.specs.Worked.{TakesSix, TakesSixWords, IsOneInvocation};
+ghost use Rattle.cc_meaning_plain.specs.Laws.{InsnOnce, InsnsOnce, CodeOnce};
 
 mod plain;
 mod table;
 
-pub use plain::{Plain, PlainInsn, PlainInsns};
+pub use plain::{Held, Plain, PlainInsn, PlainInsns};
 pub use table::Table;
 
 /// The meaning of a run, at a worked example: 3 and 4 are added, and the sum is printed.
@@ -15,5 +16,24 @@ pub fn worked_example()
     ensures instructions { TakesSix }
     ensures words { TakesSixWords }
     ensures invocations { IsOneInvocation }
+{}
+
+/// At a place stands one instruction at most.
+#[tactic(auto, using(crate::proofs::Once::insn_once))]
+pub fn law_insn_once()
+    ensures { InsnOnce }
 {
 }
+
+/// In so many units stands one list of instructions at most.
+#[tactic(auto, using(crate::proofs::Once::insns_once))]
+pub fn law_insns_once()
+    ensures { InsnsOnce }
+{
+}
+
+/// At a place stands one code item of a plain `main` at most.
+#[tactic(auto, using(crate::proofs::Once::code_once))]
+pub fn law_code_once()
+    ensures { CodeOnce }
+{}

@@ -11,6 +11,7 @@ pub returns : goal.returns
 returns c =
     let file = c.args.file.now in
     let name = c.args.name.now in
-    let number = subst (λ n. SpellsUleb file c.args.at n c.in-Ok.place) c.if-count-name.false c.in-Ok.ensures.spelled in
-    (λ e. text_from_bytes file c.args.at c.in-Ok.place name c.requires number (c.stands_ended.ensures.0 e),
-     λ text. c.stands_ended.ensures.1 (bytes_from_text c.uleb_agrees.ensures file c.args.at c.in-Ok.count c.in-Ok.place name c.requires c.in-Ok.ensures.spelled text))
+    let number = subst (λ n. SpellsUleb file c.args.at n c.in-Ok.place) c.if-count-name.false c.in-Ok.ensures.spelled in (
+      λ e. text_from_bytes file c.args.at c.in-Ok.place name c.requires number (c.stands_ended.ensures.0 e),
+      λ text. c.stands_ended.ensures.1 (bytes_from_text c.uleb_agrees.ensures file c.args.at c.in-Ok.count c.in-Ok.place name c.requires c.in-Ok.ensures.spelled text),
+    )
