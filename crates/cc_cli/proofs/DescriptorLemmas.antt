@@ -22,7 +22,7 @@ not_paired false true u (v ∷ rest) low differ (inr single) = single.0.1 (low.0
 high_is_not_low : (u : ℕ) → IsHigh u → IsLow u → ⊥
 high_is_not_low u high low = omega (arith, high.1, low.0)
 
-false_is_not : (b : Bool) (P : Type 0) → IsTrue b ↔ P → b ≡ false → P → ⊥
+pub false_is_not : (b : Bool) (P : Type 0) → IsTrue b ↔ P → b ≡ false → P → ⊥
 false_is_not b P is e p = let f : b ≡ true = is.1 p in absurd (cc)
 
 -- one more unit

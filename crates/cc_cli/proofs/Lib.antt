@@ -6,3 +6,4 @@ pub mod DescriptorLemmas
 pub mod InsnLemmas
 pub mod CodeLemmas
 pub mod UsesLemmas
+pub mod ReaderLemmas
