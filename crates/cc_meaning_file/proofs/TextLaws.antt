@@ -9,7 +9,7 @@ use Rattle.cc_meaning.specs.declared.fault.TextFault.{TextFault}
 use Rattle.cc_meaning.specs.declared.fault.TextFault.TheVariants.{CutOff, BadForm, BadCount}
 use Rattle.cc_meaning_file.specs.Numbers.{Stands}
 use Rattle.cc_meaning_file.specs.Mutf8.{SpellsMutf8, Front, unit_form, mutf8_bytes, front_of, behind_unit, text_within, text_of, counted, mutf8_at}
-use Rattle.cc_meaning_file.specs.Laws.{Mutf8Agrees}
+use Rattle.cc_meaning_file.specs.Laws.{Mutf8Agrees, TextSteps}
 use Rattle.cc_meaning_file.proofs.Forms.{IsForm, Found, front_of-sound, front_of-unit, front_of-end}
 
 abbrev Small : List ℕ → Type 0
@@ -241,3 +241,20 @@ mutf8_read bytes at units next s =
 
 pub mutf8_agrees : Mutf8Agrees
 mutf8_agrees bytes at units next = (mutf8_spelled bytes at units next, mutf8_read bytes at units next)
+
+pub text_steps : TextSteps
+text_steps = record {
+    fails = text_of-Err;
+    ends = text_of-None;
+    stands = stands_some;
+    goes_on = text_of-Some;
+    some = λ at bytes u n h. (form_fits at bytes u n h).0;
+    fits = λ at bytes u n h. (form_fits at bytes u n h).1
+  }
+  where
+    stands_some : (at : ℕ) (bytes : List ℕ) → front_of at bytes ≡ Ok None → 0 < length bytes
+    stands_some at bytes h = elim (front_cases at bytes) [
+        fails fault e ↦ absurd cc
+      | ends e b ↦ omega (arith, ap length b)
+      | forms u n e f ↦ absurd cc
+      ]
