@@ -1,4 +1,4 @@
-ghost use Rattle.cc_meaning_file.specs.Laws.{UlebAgrees, SlebAgrees, Mutf8Agrees, TextSteps, TextAgrees, OneUleb, OneText};
+ghost use Rattle.cc_meaning_file.specs.Laws.{UlebAgrees, SlebAgrees, Mutf8Agrees, Mutf8Faults, TextSteps, TextAgrees, OneUleb, OneText};
 
 /// A number in ULEB128 is read exactly where it is spelled.
 pub fn uleb_agrees()
@@ -15,6 +15,12 @@ pub fn sleb_agrees()
 /// A text in MUTF-8 is read exactly where it is spelled.
 pub fn mutf8_agrees()
     ensures { Mutf8Agrees }
+{
+}
+
+/// No reading of a text fails for want of memory.
+pub fn mutf8_faults()
+    ensures { Mutf8Faults }
 {
 }
 
