@@ -8,11 +8,7 @@ use Rattle.cc_meaning_file.specs.Mutf8.{SpellsMutf8, text_of, mutf8_at}
 use Rattle.cc_meaning_file.specs.Texts.{SpellsText, units_of, text_counted, text_item_at, text_at}
 use Rattle.cc_meaning_file.specs.Laws.{TextAgrees, OneText}
 use Rattle.cc_meaning_file.proofs.LebLaws.{uleb_agrees}
-use Rattle.cc_meaning_file.proofs.TextLaws.{mutf8_agrees, counted-length}
-
-mutf8_at-length : (bytes : List ℕ) (at count : ℕ) (units : List ℕ) (next : ℕ) → mutf8_at bytes at count ≡ Ok (units, next) → length units ≡ count
-unfolding mutf8_at
-mutf8_at-length bytes at count units next h = counted-length count (text_of at (drop at bytes)) units next h
+use Rattle.cc_meaning_file.proofs.TextLaws.{mutf8_agrees, mutf8_at-length}
 
 units_of-Some : (r : Result (List ℕ × ℕ) TextFault) (units : List ℕ) → units_of r ≡ Some units → (next : ℕ) × (r ≡ Ok (units, next))
 units_of-Some (Ok text) units h = let same : text.0 ≡ units = cc in (text.1, ap (λ us. Ok (us, text.1)) same)

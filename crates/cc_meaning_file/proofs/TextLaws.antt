@@ -9,7 +9,7 @@ use Rattle.cc_meaning.specs.declared.fault.TextFault.{TextFault}
 use Rattle.cc_meaning.specs.declared.fault.TextFault.TheVariants.{CutOff, BadForm, BadCount, Memory}
 use Rattle.cc_meaning_file.specs.Numbers.{Stands}
 use Rattle.cc_meaning_file.specs.Mutf8.{SpellsMutf8, Front, unit_form, mutf8_bytes, front_of, behind_unit, text_within, text_of, counted, mutf8_at}
-use Rattle.cc_meaning_file.specs.Laws.{Mutf8Agrees, Mutf8Faults, TextSteps}
+use Rattle.cc_meaning_file.specs.Laws.{Mutf8Agrees, Mutf8Answers, TextSteps}
 use Rattle.cc_meaning_file.proofs.Forms.{IsForm, Found, front_of-sound, front_of-unit, front_of-end, front-fault}
 
 abbrev Small : List ℕ → Type 0
@@ -202,7 +202,7 @@ counted-Ok count (Ok text) units next h = elim (cases_eq (length text.0) count) 
     | inr other ↦ let e : cond (length text.0 == count) (Ok text) (Err BadCount) ≡ Err BadCount = grind (arith, nat_tests) in absurd cc
     ]
 
-pub counted-length : (count : ℕ) (r : Text) (units : List ℕ) (next : ℕ) → counted count r ≡ Ok (units, next) → length units ≡ count
+counted-length : (count : ℕ) (r : Text) (units : List ℕ) (next : ℕ) → counted count r ≡ Ok (units, next) → length units ≡ count
 unfolding counted
 counted-length count (Err fault) units next h = absurd cc
 counted-length count (Ok text) units next h = elim (cases_eq (length text.0) count) [
@@ -271,9 +271,16 @@ counted-faults count (Ok text) h = elim (cases_eq (length text.0) count) [
     | inr other ↦ let e : cond (length text.0 == count) (Ok text) (Err BadCount) ≡ Err BadCount = grind (arith, nat_tests) in absurd cc
     ]
 
-pub mutf8_faults : Mutf8Faults
+mutf8_at-faults : (bytes : List ℕ) (at count : ℕ) → mutf8_at bytes at count ≡ Err Memory → ⊥
 unfolding mutf8_at
-mutf8_faults bytes at count h = text_of-faults at (drop at bytes) (counted-faults count (text_of at (drop at bytes)) h)
+mutf8_at-faults bytes at count h = text_of-faults at (drop at bytes) (counted-faults count (text_of at (drop at bytes)) h)
+
+pub mutf8_at-length : (bytes : List ℕ) (at count : ℕ) (units : List ℕ) (next : ℕ) → mutf8_at bytes at count ≡ Ok (units, next) → length units ≡ count
+unfolding mutf8_at
+mutf8_at-length bytes at count units next h = counted-length count (text_of at (drop at bytes)) units next h
+
+pub mutf8_answers : Mutf8Answers
+mutf8_answers = record { counted = mutf8_at-length; faults = mutf8_at-faults }
 
 pub text_steps : TextSteps
 text_steps = record {

@@ -19,9 +19,10 @@ Mutf8Agrees = (bytes : List ℕ) (at : ℕ) (units : List ℕ) (next : ℕ) →
 abbrev pub TextAgrees : Type 0
 TextAgrees = (file : List ℕ) (at : ℕ) (units : List ℕ) → (text_at file at ≡ Some units) ↔ SpellsText file at units
 
--- no reading of a text fails for want of memory: that fault is left to those who keep the text
-abbrev pub Mutf8Faults : Type 0
-Mutf8Faults = (bytes : List ℕ) (at count : ℕ) → mutf8_at bytes at count ≢ Err Memory
+-- a text that is read has that many units, and no reading fails for want of memory: that fault is left to those who keep the text
+pub record Mutf8Answers : Type 0 where
+  pub counted : (bytes : List ℕ) (at count : ℕ) (units : List ℕ) (next : ℕ) → mutf8_at bytes at count ≡ Ok (units, next) → length units ≡ count
+  pub faults : (bytes : List ℕ) (at count : ℕ) → mutf8_at bytes at count ≢ Err Memory
 
 -- a text is read form by form, by what stands in front
 pub record TextSteps : Type 0 where

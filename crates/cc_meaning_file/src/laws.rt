@@ -1,4 +1,4 @@
-ghost use Rattle.cc_meaning_file.specs.Laws.{UlebAgrees, SlebAgrees, Mutf8Agrees, Mutf8Faults, TextSteps, TextAgrees, OneUleb, OneText};
+ghost use Rattle.cc_meaning_file.specs.Laws.{UlebAgrees, SlebAgrees, Mutf8Agrees, Mutf8Answers, TextSteps, TextAgrees, OneUleb, OneText};
 
 /// A number in ULEB128 is read exactly where it is spelled.
 pub fn uleb_agrees()
@@ -18,9 +18,9 @@ pub fn mutf8_agrees()
 {
 }
 
-/// No reading of a text fails for want of memory.
-pub fn mutf8_faults()
-    ensures { Mutf8Faults }
+/// A text that is read has as many units as asked for, and no reading fails for want of memory.
+pub fn mutf8_answers()
+    ensures { Mutf8Answers }
 {
 }
 

@@ -1,0 +1,3 @@
+pub mod Leb
+pub mod Fronts
+pub mod Reading

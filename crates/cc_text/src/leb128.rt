@@ -1,0 +1,62 @@
+//! Numbers in LEB128.
+
+ghost use Rattle.std.specs.Prelude.{◌≡◌, ◌≤◌, ◌<◌, ◌^◌, ℕ, length, IfOk, OnErr};
+ghost use Rattle.cc_meaning_file.specs.Leb128.{leb_size, leb_value, uleb_at, SpellsUleb};
+
+use cc_meaning::fault::LebFault;
+use cc_meaning_file::uleb_agrees;
+
+/// The number of 32 bits in ULEB128 at `at`, and the place after it.
+pub fn uleb(bytes: &[u8], at: usize) -> Result<(u32, usize), LebFault>
+    ensures exact { result ≡ uleb_at bytes.now at }
+    ensures spelled { IfOk result (λ read. SpellsUleb bytes.now at read.0 read.1) }
+    ensures refused { OnErr result ((n next : ℕ) → ¬ SpellsUleb bytes.now at n next) }
+{
+    uleb_agrees();
+    read_uleb(bytes, at)
+}
+
+fn read_uleb(bytes: &[u8], at: usize) -> Result<(u32, usize), LebFault>
+    ensures { result ≡ uleb_at bytes.now at }
+{
+    if at > bytes.len() {
+        return Err(LebFault::CutOff);
+    }
+    let (_, rest) = bytes.split_at(at);
+    let size = number_size(rest)?;
+    let (groups, _) = rest.split_at(size);
+    let value = number_value(groups);
+    if value < 1 << 32 {
+        Ok((value as u32, at + size))
+    } else {
+        Err(LebFault::TooBig)
+    }
+}
+
+/// How many bytes the number in front takes.
+fn number_size(bytes: &[u8]) -> Result<usize, LebFault>
+    ensures value { result ≡ leb_size 5 bytes.now }
+    ensures within { IfOk result (λ size. size ≤ length bytes.now) }
+    ensures few { IfOk result (λ size. size ≤ 5) }
+{
+    for i in 0..5 {
+        if i >= bytes.len() {
+            return Err(LebFault::CutOff);
+        }
+        if bytes[i] < 128 {
+            return Ok(i + 1);
+        }
+    }
+    Err(LebFault::TooBig)
+}
+
+/// The number in the groups of these bytes.
+fn number_value(bytes: &[u8]) -> u64
+    requires { length bytes.now ≤ 5 }
+    ensures { result ≡ leb_value bytes.now }
+{
+    if bytes.is_empty() {
+        return 0;
+    }
+    u64::from(bytes[0] % 128) + 128 * number_value(&bytes[1..])
+}
