@@ -1,3 +1,5 @@
 pub mod Leb
 pub mod Fronts
 pub mod Reading
+pub mod Sums
+pub mod Signed
