@@ -3,3 +3,4 @@ pub mod Fronts
 pub mod Reading
 pub mod Sums
 pub mod Signed
+pub mod Items

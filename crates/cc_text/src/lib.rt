@@ -8,4 +8,7 @@ mod texts;
 
 pub use checksum::adler32;
 pub use leb128::{sleb, uleb};
-pub use texts::mutf8;
+pub use texts::{mutf8, text};
+
+#[cfg(test)]
+mod tests;

@@ -1,14 +1,16 @@
 //! Texts in MUTF-8.
 
-ghost use Rattle.std.specs.Prelude.{◌≡◌, ◌≢◌, ◌≤◌, ◌<◌, ◌^◌, ◌⊎◌, ℕ, List, length, drop, IsOk, IfOk, IfErr, IsErrOf};
+ghost use Rattle.std.specs.Prelude.{◌≡◌, ◌≢◌, ◌≤◌, ◌<◌, ◌^◌, ◌⊎◌, ℕ, List, length, drop, IsOk, IfOk, IfErr, IsErrOf, IsSome};
 ghost use Rattle.cc_meaning_file.specs.Mutf8.{SpellsMutf8, text_of, mutf8_at};
+ghost use Rattle.cc_meaning_file.specs.Texts.{SpellsText, text_item_at, text_at};
 ghost use Rattle.cc_text.specs.Measured.{measured};
 
 use crate::forms::front;
+use crate::leb128::uleb;
 use std::alloc::{AllocError, Global};
 
-use cc_meaning::fault::TextFault;
-use cc_meaning_file::{mutf8_agrees, mutf8_answers, text_steps};
+use cc_meaning::fault::{LebFault, TextFault};
+use cc_meaning_file::{mutf8_agrees, mutf8_answers, text_agrees, text_steps};
 
 /// The text of that many units in MUTF-8 at `at`, and the place after its zero byte. Memory is taken once, and only where there is such a text.
 pub fn mutf8(alloc: Global, bytes: &[u8], at: usize, count: u32) -> Result<(Vec<u16>, usize), TextFault>
@@ -23,6 +25,33 @@ pub fn mutf8(alloc: Global, bytes: &[u8], at: usize, count: u32) -> Result<(Vec<
     mutf8_agrees();
     mutf8_answers();
     read_mutf8(alloc, bytes, at, count)
+}
+
+/// The units of the text item at `at`. Memory is taken once, and only where there is such an item.
+pub fn text(alloc: Global, bytes: &[u8], at: usize) -> Result<Vec<u16>, TextFault>
+    ensures ok { IfOk result (λ units. text_at bytes.now at ≡ Some units.items) }
+    ensures err { IfErr result (λ fault. fault ≢ TextFault.Memory → text_item_at bytes.now at ≡ Err fault) }
+    ensures memory { IsErrOf result TextFault.Memory → IsSome (text_at bytes.now at) }
+    ensures spelled { IfOk result (λ units. SpellsText bytes.now at units.items) }
+    ensures refused { IfErr result (λ fault. fault ≢ TextFault.Memory → (units : List ℕ) → ¬ SpellsText bytes.now at units) }
+{
+    text_agrees();
+    read_text(alloc, bytes, at)
+}
+
+fn read_text(alloc: Global, bytes: &[u8], at: usize) -> Result<Vec<u16>, TextFault>
+    ensures ok { IfOk result (λ units. text_at bytes.now at ≡ Some units.items) }
+    ensures err { IfErr result (λ fault. fault ≢ TextFault.Memory → text_item_at bytes.now at ≡ Err fault) }
+    ensures memory { IsErrOf result TextFault.Memory → IsSome (text_at bytes.now at) }
+{
+    match uleb(bytes, at) {
+        Ok((count, place)) => match mutf8(alloc, bytes, place, count) {
+            Ok((units, _)) => Ok(units),
+            Err(fault) => Err(fault),
+        },
+        Err(LebFault::CutOff) => Err(TextFault::CutOff),
+        Err(LebFault::TooBig) => Err(TextFault::BadCount),
+    }
 }
 
 fn read_mutf8(alloc: Global, bytes: &[u8], at: usize, count: u32) -> Result<(Vec<u16>, usize), TextFault>
