@@ -1,14 +1,13 @@
 -- Which numbers and names a text item spells.
-use Rattle.std.proofs.Common.{◌≡◌, ◌≢◌, ◌↔◌, ℕ, ◌+◌, ◌<◌, ◌≤◌, Bool, true, false, ◌&&◌, ◌==◌, cond, nat_lt, List, [], ◌∷◌, ◌++◌, length, get_or, take, drop, Option, Some, None, Result, Ok, Err, MatchOption, IfOk, All, IsTrue, refl, sym, ap, subst, ◌∙◌, arith, rules}
+use Rattle.std.proofs.Common.{◌≡◌, ◌≢◌, ◌↔◌, ℕ, ◌+◌, ◌<◌, Bool, true, false, ◌&&◌, ◌==◌, nat_lt, List, [], ◌∷◌, ◌++◌, length, Option, Some, None, Result, MatchOption, IfOk, All, IsTrue, refl, sym, ap, subst, ◌∙◌, arith}
 use Rattle.std.specs.List.{list_all}
 use Rattle.std.proofs.lemmas.Bool.Decides.{nat_tests}
-use Rattle.std.proofs.lemmas.List.{take_more, same_from_push, length-take, get_or-drop}
 use Rattle.std.proofs.lemmas.List.Elements.{All-nil, All-cons}
 use Rattle.std.specs.declared.alloc.AllocError.{AllocError}
 use Rattle.std.proofs.lemmas.Result.{IfOk-weaker}
 use Rattle.cc_meaning_file.specs.Numbers.{u32_at, Stands}
 use Rattle.cc_meaning_file.specs.Leb128.{SpellsUleb}
-use Rattle.cc_meaning_file.specs.Mutf8.{unit_form, mutf8_bytes, SpellsMutf8}
+use Rattle.cc_meaning_file.specs.Mutf8.{unit_form, mutf8_bytes}
 use Rattle.cc_meaning_file.specs.Texts.{SpellsText, text_at}
 use Rattle.cc_meaning_file.specs.Laws.{UlebAgrees, TextAgrees}
 use Rattle.cc_meaning_plain.specs.declared.table.Table.TheVariants.{Texts, Types}

@@ -7,7 +7,6 @@ mod instructions;
 mod members;
 mod names;
 mod reader;
-mod stubs;
 mod uses;
 
 pub use reader::read_plain;

@@ -4,8 +4,8 @@ ghost use Rattle.std.specs.Prelude.{◌≡◌, ◌≢◌, ◌↔◌, ◌∷◌, 
 ghost use Rattle.cc_meaning_file.specs.Leb128.{SpellsUleb};
 ghost use Rattle.cc_meaning_plain.specs.Plain.{SpellsNumbers, IsHigh, IsLow, IsPaired, IsNameUnit, IsClassDescriptor, IsStaticCode};
 
-use super::stubs::uleb;
 use cc_meaning_file::uleb_agrees;
+use cc_text::uleb;
 
 /// Whether a unit begins a pair of UTF-16.
 fn is_high(unit: u16) -> bool

@@ -9,10 +9,11 @@ ghost use Rattle.cc_cli.specs.Ascii.{IsAsciiName};
 
 use super::bytes::{u16_at, u32_at};
 use super::header::{begins, row_at, row_count};
-use super::stubs::{text, uleb};
+use cc_meaning::fault::TextFault;
 use cc_meaning::lists::Units;
 use cc_meaning_file::{text_agrees, uleb_agrees};
 use cc_meaning_plain::Table;
+use cc_text::{text, uleb};
 use std::alloc::{AllocError, Global};
 
 /// Whether these bytes and a zero byte stand at `at`.
@@ -189,9 +190,13 @@ fn text_item(alloc: Global, file: &[u8], at: u32) -> Result<Option<Units>, Alloc
         ((units : List ℕ) → SpellsText file.now at units → ⊥)
         (λ units. SpellsText file.now at units)) }
 {
-    text_agrees();
-    let read = text(alloc, file, at as usize)?;
-    Ok(read)
+    match text(alloc, file, at as usize) {
+        Ok(units) => Ok(Some(Units::from_vec(units))),
+        Err(fault) => match fault {
+            TextFault::Memory => Err(AllocError),
+            _ => Ok(None),
+        },
+    }
 }
 
 /// The text of a row of texts, where it has one.

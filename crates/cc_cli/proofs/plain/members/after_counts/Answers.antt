@@ -1,5 +1,4 @@
-use Rattle.std.proofs.Common.{ℕ, List, [], ◌∷◌}
-use Rattle.cc_meaning_plain.specs.Plain.{SpellsNumbers}
+use Rattle.std.proofs.Common.{◌∷◌}
 use Rattle.cc_cli.proofs.NumberLemmas.{after_one}
 use Rattle.cc_cli.proofs.plain.members.after_counts.Goals as goal
 

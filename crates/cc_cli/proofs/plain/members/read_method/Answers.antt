@@ -1,4 +1,4 @@
-use Rattle.std.proofs.Common.{ℕ, List, [], ◌∷◌}
+use Rattle.std.proofs.Common.{[], ◌∷◌}
 use Rattle.cc_cli.proofs.NumberLemmas.{next_numbers}
 use Rattle.cc_cli.proofs.plain.members.read_method.Goals as goal
 

@@ -1,5 +1,4 @@
-use Rattle.cc_cli.proofs.TextLemmas.{text_read}
 use Rattle.cc_cli.proofs.plain.names.text_item.Goals as goal
 
-pub returns : goal.returns
-returns c = text_read c.text_agrees.ensures c.args.file.now c.args.at c.in_ok-read.read c.in_ok-read.ensures
+pub returns-in_default : goal.returns-in_default
+returns-in_default c = c.in-Err.ensures.refused c.in_default.not-Memory

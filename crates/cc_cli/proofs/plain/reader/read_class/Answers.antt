@@ -1,4 +1,4 @@
-use Rattle.std.proofs.Common.{◌≡◌, ap, ◌∙◌}
+use Rattle.std.proofs.Common.{ap, ◌∙◌}
 use Rattle.cc_meaning_file.specs.Numbers.{u32_at}
 use Rattle.cc_cli.proofs.ReaderLemmas.{no_class, no_descriptor}
 use Rattle.cc_cli.proofs.plain.reader.read_class.Goals as goal

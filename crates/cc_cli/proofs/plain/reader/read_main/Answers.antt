@@ -1,4 +1,4 @@
-use Rattle.std.proofs.Common.{◌≡◌, ◌+◌, ap, ◌∙◌}
+use Rattle.std.proofs.Common.{◌+◌, ap, ◌∙◌}
 use Rattle.cc_meaning_file.specs.Numbers.{u32_at}
 use Rattle.cc_cli.proofs.ReaderLemmas.{no_method, no_static, no_main, main_is}
 use Rattle.cc_cli.proofs.plain.reader.read_main.Goals as goal

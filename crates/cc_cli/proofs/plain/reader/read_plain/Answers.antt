@@ -1,4 +1,3 @@
-use Rattle.std.proofs.Common.{◌≡◌}
 use Rattle.cc_cli.proofs.ReaderLemmas.{no_plain_class, no_plain_main, no_plain_code, plain_is}
 use Rattle.cc_cli.proofs.plain.reader.read_plain.Goals as goal
 
