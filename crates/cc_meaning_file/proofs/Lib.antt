@@ -1,1 +1,6 @@
 mod Worked
+pub mod LebLaws
+pub mod SlebLaws
+pub mod Forms
+pub mod TextLaws
+pub mod ItemLaws

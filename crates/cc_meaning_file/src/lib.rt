@@ -1,2 +1,8 @@
 //! What the bytes of a DEX file spell, and the laws of those definitions.
 #![tactic(auto)]
+
+mod laws;
+
+pub use laws::{
+    mutf8_agrees, mutf8_answers, one_text, one_uleb, sleb_agrees, text_agrees, text_steps, uleb_agrees,
+};

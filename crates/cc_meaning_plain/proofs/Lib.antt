@@ -1,3 +1,4 @@
 pub mod Worked
 pub mod Running
 pub mod Returns
+pub mod Once

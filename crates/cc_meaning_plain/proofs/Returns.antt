@@ -19,7 +19,8 @@ use Rattle.cc_meaning_run.specs.Local.{opening_static, opening_world, make_texts
 use Rattle.cc_meaning_plain.specs.declared.plain.PlainInsn.{PlainInsn}
 use Rattle.cc_meaning_plain.specs.declared.plain.PlainInsn.TheVariants.{SgetOut, Const4, AddInt2Addr, InvokePrintln}
 use Rattle.cc_meaning_plain.specs.declared.plain.Plain.{Plain}
-use Rattle.cc_meaning_plain.specs.Code.{signed_nibble, SpellsInsns, units_of, Nothing, IsPlainCode}
+use Rattle.cc_meaning_plain.specs.Code.{signed_nibble, SpellsInsns, units_of, IsPlainCode}
+use Rattle.cc_meaning_plain.specs.declared.plain.Held.TheVariants.{Nothing}
 use Rattle.cc_meaning_plain.specs.Plain.{IsPlain}
 use Rattle.cc_meaning_plain.specs.Program.{program_of, setting_of}
 use Rattle.cc_meaning_plain.specs.Text.{text_of}

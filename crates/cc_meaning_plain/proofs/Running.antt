@@ -31,7 +31,9 @@ use Rattle.cc_meaning_run.specs.Local.{utf8_of, output_of, calls_of}
 use Rattle.cc_meaning_plain.specs.declared.plain.PlainInsn.{PlainInsn}
 use Rattle.cc_meaning_plain.specs.declared.plain.PlainInsn.TheVariants.{SgetOut, Const4, AddInt2Addr, InvokePrintln}
 use Rattle.cc_meaning_plain.specs.declared.plain.Plain.{Plain}
-use Rattle.cc_meaning_plain.specs.Code.{units_of, Held, Nothing, Number, Stream, UsesWhatIsSet}
+use Rattle.cc_meaning_plain.specs.declared.plain.Held.{Held}
+use Rattle.cc_meaning_plain.specs.declared.plain.Held.TheVariants.{Nothing, Number, Stream}
+use Rattle.cc_meaning_plain.specs.Code.{units_of, UsesWhatIsSet}
 use Rattle.cc_meaning_plain.specs.Program.{insn_of, placed_from, program_of, setting_of}
 use Rattle.cc_meaning_plain.specs.Text.{number_at, text_of}
 

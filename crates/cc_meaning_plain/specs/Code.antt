@@ -3,6 +3,8 @@ use Rattle.std.specs.Prelude.{◌≡◌, ◌≢◌, ℕ, ◌+◌, ◌*◌, ◌/�
 use Rattle.cc_meaning_file.specs.Numbers.{u16_at, u32_at, Within}
 use Rattle.cc_meaning_plain.specs.declared.plain.PlainInsn.{PlainInsn}
 use Rattle.cc_meaning_plain.specs.declared.plain.PlainInsn.TheVariants.{SgetOut, Const4, AddInt2Addr, InvokePrintln}
+use Rattle.cc_meaning_plain.specs.declared.plain.Held.{Held}
+use Rattle.cc_meaning_plain.specs.declared.plain.Held.TheVariants.{Nothing, Number, Stream}
 use Rattle.cc_meaning_plain.specs.Names.{IsOutField, IsPrintln}
 
 -- how many units an instruction takes
@@ -40,12 +42,6 @@ SpellsInsns file registers at count (insn ∷ rest) =
     × SpellsInsns file registers (at + 2 * units_of insn) left rest
 
 -- ---- what registers hold
-
--- what an instruction set a register to last
-pub data Held : Type 0 where
-  Nothing : Held
-  Number : Held
-  Stream : Held
 
 -- each number that is added or printed stands in a register that was last set to a number, and each receiver in one that was last set to `System.out`
 abbrev pub UsesWhatIsSet : List Held → List PlainInsn → Type 0

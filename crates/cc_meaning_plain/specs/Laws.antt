@@ -5,6 +5,8 @@ use Rattle.cc_meaning.specs.declared.report.Report.{Report}
 use Rattle.cc_meaning.specs.declared.report.Limits.{Limits}
 use Rattle.cc_meaning_run.specs.Local.{local}
 use Rattle.cc_meaning_plain.specs.declared.plain.Plain.{Plain}
+use Rattle.cc_meaning_plain.specs.declared.plain.PlainInsn.{PlainInsn}
+use Rattle.cc_meaning_plain.specs.Code.{SpellsInsn, SpellsInsns, IsPlainCode}
 use Rattle.cc_meaning_plain.specs.Plain.{IsPlain}
 use Rattle.cc_meaning_plain.specs.Program.{setting_of}
 use Rattle.cc_meaning_plain.specs.Text.{text_of}
@@ -32,3 +34,17 @@ PlainReturns = (file : List ℕ) (plain : Plain) → AreBytes file → IsPlain f
 -- a file is plain in one way at most
 abbrev pub PlainOnce : Type 0
 PlainOnce = (file : List ℕ) (first second : Plain) → IsPlain file first → IsPlain file second → first ≡ second
+
+-- at a place stands one instruction at most
+abbrev pub InsnOnce : Type 0
+InsnOnce = (file : List ℕ) (registers at : ℕ) (first second : PlainInsn) → SpellsInsn file registers at first → SpellsInsn file registers at second → first ≡ second
+
+-- in so many units stands one list of instructions at most
+abbrev pub InsnsOnce : Type 0
+InsnsOnce = (file : List ℕ) (registers at count : ℕ) (first second : List PlainInsn) →
+    SpellsInsns file registers at count first → SpellsInsns file registers at count second → first ≡ second
+
+-- at a place stands one code item of a plain main at most
+abbrev pub CodeOnce : Type 0
+CodeOnce = (file : List ℕ) (at registers1 registers2 : ℕ) (insns1 insns2 : List PlainInsn) →
+    IsPlainCode file at registers1 insns1 → IsPlainCode file at registers2 insns2 → (registers1 ≡ registers2) × (insns1 ≡ insns2)

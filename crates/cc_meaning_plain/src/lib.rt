@@ -1,13 +1,13 @@
 //! Plain files: what the bytes of a file of one printing class spell, and the program that it is.
 #![tactic(auto)]
 
-ghost use Rattle.cc_meaning_plain.specs.Laws.{PlainReturns};
+ghost use Rattle.cc_meaning_plain.specs.Laws.{PlainReturns, InsnOnce, InsnsOnce, CodeOnce};
 ghost use Rattle.cc_meaning_plain.specs.Worked.{TakesSix, TakesSixWords, IsOneInvocation};
 
 mod plain;
 mod table;
 
-pub use plain::{Plain, PlainInsn, PlainInsns};
+pub use plain::{Held, Plain, PlainInsn, PlainInsns};
 pub use table::Table;
 
 /// The meaning of a run, at a worked example: 3 and 4 are added, and the sum is printed.
@@ -21,4 +21,24 @@ pub fn worked_example()
 /// The run of a plain file always returns within the limits for which none are named, and prints what its instructions print.
 pub fn law_plain_returns()
     ensures { PlainReturns }
+{}
+
+/// At a place stands one instruction at most.
+#[tactic(auto, using(crate::proofs::Once::insn_once))]
+pub fn law_insn_once()
+    ensures { InsnOnce }
+{
+}
+
+/// In so many units stands one list of instructions at most.
+#[tactic(auto, using(crate::proofs::Once::insns_once))]
+pub fn law_insns_once()
+    ensures { InsnsOnce }
+{
+}
+
+/// At a place stands one code item of a plain `main` at most.
+#[tactic(auto, using(crate::proofs::Once::code_once))]
+pub fn law_code_once()
+    ensures { CodeOnce }
 {}

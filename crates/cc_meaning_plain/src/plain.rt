@@ -16,6 +16,15 @@ pub enum PlainInsn {
     InvokePrintln { stream: u8, number: u8 },
 }
 
+/// What an instruction set a register to last.
+#[derive(Clone, Copy)]
+pub enum Held {
+    Nothing,
+    Number,
+    /// `System.out`.
+    Stream,
+}
+
 /// The instructions before the `return-void` that ends them.
 pub type PlainInsns = List<PlainInsn>;
 

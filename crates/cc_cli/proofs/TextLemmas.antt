@@ -1,0 +1,123 @@
+-- Which numbers and names a text item spells.
+use Rattle.std.proofs.Common.{◌≡◌, ◌≢◌, ◌↔◌, ℕ, ◌+◌, ◌<◌, Bool, true, false, ◌&&◌, ◌==◌, nat_lt, List, [], ◌∷◌, ◌++◌, length, Option, Some, None, Result, MatchOption, IfOk, All, IsTrue, refl, sym, ap, subst, ◌∙◌, arith}
+use Rattle.std.specs.List.{list_all}
+use Rattle.std.proofs.lemmas.Bool.Decides.{nat_tests}
+use Rattle.std.proofs.lemmas.List.Elements.{All-nil, All-cons}
+use Rattle.std.specs.declared.alloc.AllocError.{AllocError}
+use Rattle.std.proofs.lemmas.Result.{IfOk-weaker}
+use Rattle.cc_meaning_file.specs.Numbers.{u32_at, Stands}
+use Rattle.cc_meaning_file.specs.Leb128.{SpellsUleb}
+use Rattle.cc_meaning_file.specs.Mutf8.{unit_form, mutf8_bytes}
+use Rattle.cc_meaning_file.specs.Texts.{SpellsText, text_at}
+use Rattle.cc_meaning_file.specs.Laws.{UlebAgrees, TextAgrees}
+use Rattle.cc_meaning_plain.specs.declared.table.Table.TheVariants.{Texts, Types}
+use Rattle.cc_meaning_plain.specs.Tables.{row_at, IsRow}
+use Rattle.cc_meaning_plain.specs.Names.{TextRow, TypeRow}
+use Rattle.cc_cli.specs.Ascii.{is_ascii_unit, IsAsciiName}
+
+-- one number at most is spelled at a place
+pub same_number : UlebAgrees → (file : List ℕ) (at n next m after : ℕ) → SpellsUleb file at n next → SpellsUleb file at m after → (n ≡ m) × (next ≡ after)
+same_number agrees file at n next m after first second =
+    let e = sym ((agrees file at n next).1 first) ∙ (agrees file at m after).1 second in
+    let both : (n, next) ≡ (m, after) = cc in
+    (ap (λ (p : ℕ × ℕ). p.0) both, ap (λ (p : ℕ × ℕ). p.1) both)
+
+both_true : (a b : Bool) → (a && b) ≡ true → (a ≡ true) × (b ≡ true)
+both_true true b e = (refl, e)
+both_true false b e = absurd (cc)
+
+ascii_unit : (u : ℕ) → is_ascii_unit u ≡ true → (0 < u) × (u < 128)
+ascii_unit u h = let both = both_true (nat_lt 0 u) (nat_lt u 128) h in (grind (arith, nat_tests), grind (arith, nat_tests))
+
+unit_form-ascii : (u : ℕ) → 0 < u → u < 128 → unit_form u ≡ u ∷ []
+unfolding unit_form
+unit_form-ascii u some few =
+    let none : (u == 0) ≡ false = grind (arith, nat_tests) in
+    let small : nat_lt u 128 ≡ true = grind (arith, nat_tests) in
+    rw (none, small)
+
+-- the forms of a name of ASCII are its bytes
+pub mutf8_bytes-ascii : (name : List ℕ) → IsAsciiName name → mutf8_bytes name ≡ name
+unfolding mutf8_bytes
+mutf8_bytes-ascii [] h = refl
+mutf8_bytes-ascii (u ∷ us) h =
+    let both = both_true (is_ascii_unit u) (list_all is_ascii_unit us) h in
+    let unit = ascii_unit u both.0 in
+    rw (unit_form-ascii u unit.0 unit.1, mutf8_bytes-ascii us both.1)
+
+pub small_units : (name : List ℕ) → IsAsciiName name → All (λ u. u < 65536) name
+small_units [] h = All-nil (λ u. u < 65536)
+small_units (u ∷ us) h =
+    let both = both_true (is_ascii_unit u) (list_all is_ascii_unit us) h in
+    let unit = ascii_unit u both.0 in
+    All-cons (λ u. u < 65536) u us (omega arith) (small_units us both.1)
+
+-- nothing spells a text where no number stands
+pub no_text : (file : List ℕ) (at : ℕ) (units : List ℕ) → ((n next : ℕ) → SpellsUleb file at n next → ⊥) → SpellsText file at units → ⊥
+no_text file at units none text = none (length units) text.place text.count
+
+pub other_count : UlebAgrees → (file : List ℕ) (at n next : ℕ) (units : List ℕ) → SpellsUleb file at n next → n ≢ length units → SpellsText file at units → ⊥
+other_count agrees file at n next units number other text =
+    other (same_number agrees file at n next (length units) text.place number text.count).0
+
+-- the text of a name is its count, its bytes and a zero byte
+pub text_from_bytes : (file : List ℕ) (at place : ℕ) (name : List ℕ) → IsAsciiName name → SpellsUleb file at (length name) place → Stands file place (name ++ 0 ∷ []) → SpellsText file at name
+text_from_bytes file at place name ascii number stands =
+    record {
+      place = place;
+      next = place + length (mutf8_bytes name) + 1;
+      count = number;
+      text = record {
+        small = small_units name ascii;
+        stands = subst (λ bytes. Stands file place (bytes ++ 0 ∷ [])) (sym (mutf8_bytes-ascii name ascii)) stands;
+        end = refl;
+      };
+    }
+
+pub bytes_from_text : UlebAgrees → (file : List ℕ) (at n place : ℕ) (name : List ℕ) → IsAsciiName name → SpellsUleb file at n place → SpellsText file at name → Stands file place (name ++ 0 ∷ [])
+bytes_from_text agrees file at n place name ascii number text =
+    let same = same_number agrees file at n place (length name) text.place number text.count in
+    let stands = subst (λ bytes. Stands file text.place (bytes ++ 0 ∷ [])) (mutf8_bytes-ascii name ascii) text.text.stands in
+    subst (λ p. Stands file p (name ++ 0 ∷ [])) (sym same.1) stands
+
+-- ---- texts of any units
+
+-- a text is there just where one is spelled, or it is told that there is none
+abbrev pub Reads : (List ℕ → Type 0) → Option (List ℕ) → Type 0
+Reads P read = MatchOption read ((units : List ℕ) → P units → ⊥) (λ units. P units)
+
+pub text_read : TextAgrees → (file : List ℕ) (at : ℕ) (read : Option (List ℕ)) → read ≡ text_at file at → Reads (SpellsText file at) read
+text_read agrees file at None e = λ units text. let found = (agrees file at units).1 text in absurd (cc)
+text_read agrees file at (Some units) e = (agrees file at units).0 (sym e)
+
+reads_like : (P Q : List ℕ → Type 0) → ((units : List ℕ) → P units → Q units) → ((units : List ℕ) → Q units → P units) → (read : Option (List ℕ)) → Reads P read → Reads Q read
+reads_like P Q to from None none = λ units q. none units (from units q)
+reads_like P Q to from (Some units) p = to units p
+
+pub text_row_read : (file : List ℕ) (row : ℕ) (r : Result (Option (List ℕ)) AllocError) → IsRow file Texts row →
+    IfOk r (Reads (SpellsText file (u32_at file (row_at file Texts row)))) → IfOk r (Reads (TextRow file row))
+text_row_read file row r stands read =
+    IfOk-weaker r (Reads (SpellsText file (u32_at file (row_at file Texts row)))) (Reads (TextRow file row))
+      (λ found. reads_like (SpellsText file (u32_at file (row_at file Texts row))) (TextRow file row)
+        (λ units text. record { row_stands = stands; text = text }) (λ units row. row.text) found) read
+
+pub type_row_read : (file : List ℕ) (row : ℕ) (r : Result (Option (List ℕ)) AllocError) → IsRow file Types row →
+    IfOk r (Reads (TextRow file (u32_at file (row_at file Types row)))) → IfOk r (Reads (TypeRow file row))
+type_row_read file row r stands read =
+    IfOk-weaker r (Reads (TextRow file (u32_at file (row_at file Types row)))) (Reads (TypeRow file row))
+      (λ found. reads_like (TextRow file (u32_at file (row_at file Types row))) (TypeRow file row)
+        (λ units descriptor. record { row_stands = stands; descriptor = descriptor }) (λ units row. row.descriptor) found) read
+
+pub same_text : TextAgrees → (file : List ℕ) (at : ℕ) (first second : List ℕ) → SpellsText file at first → SpellsText file at second → first ≡ second
+same_text agrees file at first second a b =
+    let e = sym ((agrees file at first).1 a) ∙ (agrees file at second).1 b in cc
+
+-- a row of types has one descriptor at most
+pub same_type : TextAgrees → (file : List ℕ) (row : ℕ) (first second : List ℕ) → TypeRow file row first → TypeRow file row second → first ≡ second
+same_type agrees file row first second a b =
+    same_text agrees file (u32_at file (row_at file Texts (u32_at file (row_at file Types row)))) first second a.descriptor.text b.descriptor.text
+
+-- a row of types has this descriptor just if it is the one that it was read to have
+pub named_is : TextAgrees → (file : List ℕ) (row : ℕ) (found name : List ℕ) (is : Bool) → TypeRow file row found → IsTrue is ↔ (found ≡ name) → IsTrue is ↔ TypeRow file row name
+named_is agrees file row found name is type same =
+    (λ e. subst (λ units. TypeRow file row units) (same.0 e) type, λ other. same.1 (same_type agrees file row found name type other))
