@@ -1,7 +1,6 @@
 -- What a command comes to.
-use Rattle.std.proofs.Common.{inl, inr, ◌≡◌, ◌⊎◌, ℕ, ◌<◌, ◌≤◌, List, [], length, Some, None, Option, Result, Ok, Err, refl, sym, ap, ◌∙◌, subst, IfOk, pos, replicate}
+use Rattle.std.proofs.Common.{inr, ◌≡◌, ℕ, ◌≤◌, List, length, Result, Ok, Err, sym, ap, ◌∙◌, subst, IfOk}
 use Rattle.std.specs.declared.alloc.AllocError.{AllocError}
-use Rattle.cc_meaning.specs.declared.report.Report.{Report}
 use Rattle.cc_outside.specs.Shelves.{Known, Counts, IsFile}
 use Rattle.cc_plan.specs.declared.plan.Plan.{Plan}
 use Rattle.cc_meaning_lines.specs.Lines.{returned_line}
@@ -9,8 +8,7 @@ use Rattle.cc_meaning_plain.specs.declared.plain.Plain.{Plain}
 use Rattle.cc_meaning_plain.specs.Tables.{longest_file}
 use Rattle.cc_meaning_plain.specs.Plain.{IsPlain}
 use Rattle.cc_meaning_plain.specs.Laws.{AreBytes, PlainReturns}
-use Rattle.cc_meaning_plain.specs.Text.{text_of}
-use Rattle.cc_cli.specs.Plans.{BytesPlan, RunPlan, was_read, printed_plan, ran_plan}
+use Rattle.cc_cli.specs.Plans.{BytesPlan, RunPlan, was_read, printed_plan}
 
 pub plain_plan : (name file : List ℕ) (plain : Plain) (made : Result Plan AllocError) → PlainReturns → AreBytes file → IsPlain file plain → IfOk made (λ plan. plan ≡ printed_plan plain) → IfOk made (λ plan. BytesPlan name file plan)
 plain_plan name file plain (Ok plan) law bytes is e =

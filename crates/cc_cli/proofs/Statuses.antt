@@ -1,24 +1,24 @@
 -- What each status says, of a run.
-use Rattle.std.proofs.Common.{inl, inr, ◌≡◌, ◌≢◌, ◌⊎◌, ℕ, ◌<◌, ◌≤◌, List, [], ◌++◌, length, Option, Some, None, refl, sym, ap, subst, ◌∙◌, arith}
+use Rattle.std.proofs.Common.{inl, inr, ◌≡◌, ◌≢◌, ◌⊎◌, ℕ, ◌<◌, ◌≤◌, List, [], length, Option, Some, None, refl, sym, ap, subst, ◌∙◌, arith}
 use Rattle.std.specs.Prelude.{IfSome, IsSomeAnd}
 use Rattle.std.proofs.lemmas.List.{append-nil}
 use Rattle.cc_meaning.specs.declared.report.Report.{Report}
 use Rattle.cc_outside.specs.Counting.{Rose}
 use Rattle.cc_outside.specs.Telling.{more}
-use Rattle.cc_outside.specs.Shelves.{Files, Known, Tells, IsFile, IsAbsent, IsLonger}
+use Rattle.cc_outside.specs.Shelves.{Files, Tells, IsFile, IsAbsent, IsLonger}
 use Rattle.cc_outside.specs.Sinks.{Pipe}
 use Rattle.cc_plan.specs.declared.plan.Plan.{Plan}
-use Rattle.cc_plan.specs.Carrying.{AsPlanned, Unwritten, OutLost, NotesLost, Ends, Wrote}
+use Rattle.cc_plan.specs.Carrying.{AsPlanned, Ends, Wrote}
 use Rattle.cc_meaning_lines.specs.Lines.{returned_line}
 use Rattle.cc_meaning_plain.specs.declared.plain.Plain.{Plain}
 use Rattle.cc_meaning_plain.specs.Tables.{longest_file}
 use Rattle.cc_meaning_plain.specs.Plain.{IsPlain}
 use Rattle.cc_cli.specs.declared.fault.Fault.{Fault}
 use Rattle.cc_cli.specs.declared.fault.Fault.TheVariants as faults
-use Rattle.cc_cli.specs.Faults.{status_of, line_of, fault_plan}
+use Rattle.cc_cli.specs.Faults.{status_of, fault_plan}
 use Rattle.cc_cli.specs.Plans.{file_named, IsNotPlain, Returns, ran_plan, RunPlan, failed, absent, too_large, was_read}
 use Rattle.cc_cli.specs.Runs.{Outside, CallPlan, WordsPlan, Runs}
-use Rattle.cc_cli.specs.Statuses.{IsDue, DueBy, Says, RunsFile, Statuses}
+use Rattle.cc_cli.specs.Statuses.{DueBy, Says, RunsFile, Statuses}
 
 some_same : {A : Type 0} {a b : A} → Some a ≡ Some b → a ≡ b
 some_same e = cc

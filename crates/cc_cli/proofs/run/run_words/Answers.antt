@@ -1,5 +1,5 @@
 use Rattle.std.proofs.Common.{string_bytes, map, refl}
-use Rattle.cc_cli.specs.Runs.{Outside, Runs}
+use Rattle.cc_cli.specs.Runs.{Outside}
 use Rattle.cc_cli.proofs.Statuses.{statuses, no_plan}
 use Rattle.cc_cli.proofs.run.run_words.Goals as goal
 

@@ -1,4 +1,4 @@
-use Rattle.std.proofs.Common.{rules, refl, ◌≡◌, ◌∙◌, ap, sym, List, pos, replicate}
+use Rattle.std.proofs.Common.{rules, ◌∙◌, ap, List, pos, replicate}
 use Rattle.cc_meaning_plain.specs.declared.plain.PlainInsn.{PlainInsn}
 use Rattle.cc_meaning_plain.specs.Text.{text_of}
 use Rattle.cc_cli.proofs.Printing.{goes_on, goes_to_end}
