@@ -1,11 +1,9 @@
 -- A plan is carried out.
-use Rattle.std.proofs.Common.{inl, inr, ◌≡◌, ℕ, ◌+◌, ◌<◌, ◌≤◌, List, [], ◌++◌, length, take, drop, Option, Some, None, refl, sym, ap, ◌∙◌, arith, append_assoc, ◌⊎◌}
+use Rattle.std.proofs.Common.{◌≡◌, ℕ, List, [], ◌++◌, take, drop, Option, Some, None, refl, sym, ap, ◌∙◌, append_assoc}
 use Rattle.std.proofs.lemmas.List.{append-nil, take-append-drop}
-use Rattle.cc_outside.specs.Counting.{Rose}
 use Rattle.cc_outside.specs.Telling.{more}
 use Rattle.cc_outside.specs.Sinks.{Pipe}
-use Rattle.cc_plan.specs.declared.plan.Plan.{Plan}
-use Rattle.cc_plan.specs.Carrying.{Wrote, WroteLess, Loses, AsPlanned, Unwritten, OutLost, NotesLost, Ends}
+use Rattle.cc_plan.specs.Carrying.{Wrote}
 
 more-more : (a b : List ℕ) (o : Option (List ℕ)) → more (a ++ b) o ≡ more b (more a o)
 more-more a b None = refl

@@ -1,4 +1,4 @@
-use Rattle.std.proofs.Common.{◌≡◌, ◌≤◌, ◌∙◌, sym, subst, List, ℕ, length, arith}
+use Rattle.std.proofs.Common.{sym, subst, List, ℕ, arith}
 use Rattle.cc_plan.proofs.Writing.{IsWritten, written_more}
 use Rattle.cc_plan.proofs.carry.write_all.Goals as goal
 
