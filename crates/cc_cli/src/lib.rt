@@ -8,3 +8,6 @@ mod run;
 mod shown;
 
 pub use run::run_words;
+
+#[cfg(test)]
+mod tests;

@@ -1,5 +1,5 @@
 -- A plan is carried out.
-use Rattle.std.proofs.Common.{◌≡◌, ℕ, List, [], ◌++◌, take, drop, Option, Some, None, refl, sym, ap, ◌∙◌, append_assoc}
+use Rattle.std.proofs.Common.{◌≡◌, ℕ, List, [], ◌∷◌, ◌++◌, length, arith, take, drop, Option, Some, None, refl, sym, ap, ◌∙◌, append_assoc}
 use Rattle.std.proofs.lemmas.List.{append-nil, take-append-drop}
 use Rattle.cc_outside.specs.Telling.{more}
 use Rattle.cc_outside.specs.Sinks.{Pipe}
@@ -12,6 +12,10 @@ more-more a b (Some xs) = ap Some (sym (append_assoc xs a b))
 more-nil : (o : Option (List ℕ)) → more [] o ≡ o
 more-nil None = refl
 more-nil (Some xs) = ap Some (append-nil xs)
+
+pub wrote_nothing : (text : List ℕ) (p : Pipe) → length text ≡ 0 → Wrote text p p
+wrote_nothing [] p e = sym (more-nil p.text)
+wrote_nothing (x ∷ text) p e = absurd (omega arith)
 
 -- rest is left of the text
 abbrev pub IsWritten : List ℕ → List ℕ → Pipe → Pipe → Type 0
