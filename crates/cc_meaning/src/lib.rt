@@ -12,8 +12,6 @@ pub mod profile;
 pub mod program;
 pub mod report;
 pub mod script;
-#[cfg(test)]
-mod tests;
 pub mod text;
 pub mod travel;
 pub mod value;

@@ -1,12 +1,12 @@
-use crate::fault::{DexFault, Memory, ProfileFault};
-use crate::instruction::Insn;
-use crate::lists::Units;
-use crate::program::{
+use cc_list::List;
+use cc_meaning::fault::{DexFault, Memory, ProfileFault};
+use cc_meaning::instruction::Insn;
+use cc_meaning::lists::Units;
+use cc_meaning::program::{
     Base, Class, ClassKind, Classes, Code, DexType, Method, MethodKind, Methods, Placed, Program,
     Types,
 };
-use crate::text::Text;
-use cc_list::List;
+use cc_meaning::text::Text;
 use std::alloc::{AllocError, Global};
 use std::test::Fail;
 
