@@ -17,9 +17,11 @@ use Rattle.cc_meaning.specs.declared.program.Field.{Field}
 use Rattle.cc_meaning.specs.declared.program.Method.{Method}
 use Rattle.cc_meaning.specs.declared.program.MethodKind.TheVariants as method_kind
 use Rattle.cc_meaning.specs.declared.program.Program.{Program}
+use Rattle.cc_meaning.specs.declared.instruction.Kind.{Kind}
 use Rattle.cc_meaning.specs.declared.instruction.Kind.TheVariants as kind
-use Rattle.cc_meaning.specs.Kinds.{kind_of, width_of_types, argument_width, width_of_values}
+use Rattle.cc_meaning.specs.Kinds.{argument_width, is_of_kind, kind_of, width_of_types, width_of_values, zero_of}
 use Rattle.cc_meaning.specs.Lookup.{class_of_object, system_out, method_named}
+use Rattle.cc_meaning.specs.Order.{IsBefore}
 use Rattle.cc_meaning.specs.Names.{field_name, method_name}
 use Rattle.cc_meaning.specs.BuiltIn.{BuiltInClass, built_in_classes, built_in_plain_classes, built_in_throwables, built_in_superclass, system_out_name, object_name, string_name, string_builder_name, system_name, print_stream_name, throwable_name, exception_name, error_name, runtime_exception_name, arithmetic_exception_name, null_pointer_exception_name, array_store_exception_name, class_cast_exception_name, index_out_of_bounds_exception_name, negative_array_size_exception_name, illegal_argument_exception_name, illegal_state_exception_name, array_index_out_of_bounds_exception_name, string_index_out_of_bounds_exception_name, linkage_error_name, virtual_machine_error_name, no_class_def_found_error_name, exception_in_initializer_error_name, incompatible_class_change_error_name, abstract_method_error_name, stack_overflow_error_name}
 
@@ -148,3 +150,20 @@ classes_are_closed = refl
 above_stack_overflow : built_in_superclass (codes "Ljava/lang/StackOverflowError;") ≡ Some (codes "Ljava/lang/VirtualMachineError;")
 unfolding built_in_classes built_in_plain_classes built_in_throwables object_name string_name string_builder_name system_name print_stream_name throwable_name exception_name error_name runtime_exception_name arithmetic_exception_name null_pointer_exception_name array_store_exception_name class_cast_exception_name index_out_of_bounds_exception_name negative_array_size_exception_name illegal_argument_exception_name illegal_state_exception_name array_index_out_of_bounds_exception_name string_index_out_of_bounds_exception_name linkage_error_name virtual_machine_error_name no_class_def_found_error_name exception_in_initializer_error_name incompatible_class_change_error_name abstract_method_error_name stack_overflow_error_name
 above_stack_overflow = refl
+
+-- what a field of a kind begins with is of that kind
+zero_is_of_kind : (k : Kind) → is_of_kind k (zero_of k) ≡ true
+zero_is_of_kind kind.Plain = refl
+zero_is_of_kind kind.Wide = refl
+zero_is_of_kind kind.Object = refl
+zero_is_of_kind kind.Boolean = refl
+zero_is_of_kind kind.Byte = refl
+zero_is_of_kind kind.Char = refl
+zero_is_of_kind kind.Short = refl
+
+-- a name comes before one that goes on behind it, and before one whose first other unit is greater
+shorter_is_before : IsBefore (codes "LA") (codes "LA;")
+shorter_is_before = refl
+
+lower_is_before : IsBefore (codes "LA;") (codes "LB")
+lower_is_before = refl

@@ -145,6 +145,9 @@ is_built_in_throwable name = list_any (λ (class : BuiltInClass). bytes_eq class
 abbrev pub built_in_superclass : List ℕ → Option (List ℕ)
 built_in_superclass name = option_and_then (λ (class : BuiltInClass). class.superclass) (built_in_class name)
 
--- the field of the standard output, by its name as printed
+-- the standard output's field: its bare name, and its name as printed
+unfoldable pub out_name : List ℕ
+out_name = codes "out"
+
 unfoldable pub system_out_name : List ℕ
 system_out_name = codes "Ljava/lang/System;->out:Ljava/io/PrintStream;"

@@ -8,8 +8,13 @@ use thiserror::Error;
 
 /// There is no memory. Nothing else is said: an answer that the allocator decides.
 #[derive(Clone, Copy, Debug, Error)]
-#[error("no memory")]
 pub struct Memory;
+
+impl fmt::Display for Memory {
+    fn fmt<W: fmt::Write>(&self, f: &mut fmt::Formatter<W>) -> fmt::Result {
+        f.write_str("no memory")
+    }
+}
 
 impl From<AllocError> for Memory {
     fn from(_: AllocError) -> Memory {
@@ -29,7 +34,8 @@ pub enum LebFault {
 
 impl fmt::Display for LebFault {
     fn fmt<W: fmt::Write>(&self, f: &mut fmt::Formatter<W>) -> fmt::Result {
-        write!(f, "no number in LEB128: {self:?}")
+        f.write_str("no number in LEB128: ")?;
+        fmt::Debug::fmt(self, f)
     }
 }
 
@@ -50,7 +56,8 @@ pub enum TextFault {
 
 impl fmt::Display for TextFault {
     fn fmt<W: fmt::Write>(&self, f: &mut fmt::Formatter<W>) -> fmt::Result {
-        write!(f, "no text in MUTF-8: {self:?}")
+        f.write_str("no text in MUTF-8: ")?;
+        fmt::Debug::fmt(self, f)
     }
 }
 
@@ -99,7 +106,8 @@ pub enum DexFault {
 
 impl fmt::Display for DexFault {
     fn fmt<W: fmt::Write>(&self, f: &mut fmt::Formatter<W>) -> fmt::Result {
-        write!(f, "no DEX file: {self:?}")
+        f.write_str("no DEX file: ")?;
+        fmt::Debug::fmt(self, f)
     }
 }
 
@@ -131,7 +139,8 @@ pub enum InsnFault {
 
 impl fmt::Display for InsnFault {
     fn fmt<W: fmt::Write>(&self, f: &mut fmt::Formatter<W>) -> fmt::Result {
-        write!(f, "no instruction: {self:?}")
+        f.write_str("no instruction: ")?;
+        fmt::Debug::fmt(self, f)
     }
 }
 
@@ -184,7 +193,8 @@ pub enum ProgramFault {
 
 impl fmt::Display for ProgramFault {
     fn fmt<W: fmt::Write>(&self, f: &mut fmt::Formatter<W>) -> fmt::Result {
-        write!(f, "no program: {self:?}")
+        f.write_str("no program: ")?;
+        fmt::Debug::fmt(self, f)
     }
 }
 
@@ -229,7 +239,8 @@ pub enum VerifyFault {
 
 impl fmt::Display for VerifyFault {
     fn fmt<W: fmt::Write>(&self, f: &mut fmt::Formatter<W>) -> fmt::Result {
-        write!(f, "not well typed: {self:?}")
+        f.write_str("not well typed: ")?;
+        fmt::Debug::fmt(self, f)
     }
 }
 
@@ -272,7 +283,8 @@ pub enum ScriptFault {
 
 impl fmt::Display for ScriptFault {
     fn fmt<W: fmt::Write>(&self, f: &mut fmt::Formatter<W>) -> fmt::Result {
-        write!(f, "no script: {self:?}")
+        f.write_str("no script: ")?;
+        fmt::Debug::fmt(self, f)
     }
 }
 
@@ -309,7 +321,8 @@ pub enum CallFault {
 
 impl fmt::Display for CallFault {
     fn fmt<W: fmt::Write>(&self, f: &mut fmt::Formatter<W>) -> fmt::Result {
-        write!(f, "no call relations: {self:?}")
+        f.write_str("no call relations: ")?;
+        fmt::Debug::fmt(self, f)
     }
 }
 
@@ -347,7 +360,8 @@ pub enum ProfileFault {
 
 impl fmt::Display for ProfileFault {
     fn fmt<W: fmt::Write>(&self, f: &mut fmt::Formatter<W>) -> fmt::Result {
-        write!(f, "no profile: {self:?}")
+        f.write_str("no profile: ")?;
+        fmt::Debug::fmt(self, f)
     }
 }
 
@@ -390,7 +404,8 @@ pub enum PartitionFault {
 
 impl fmt::Display for PartitionFault {
     fn fmt<W: fmt::Write>(&self, f: &mut fmt::Formatter<W>) -> fmt::Result {
-        write!(f, "no partition: {self:?}")
+        f.write_str("no partition: ")?;
+        fmt::Debug::fmt(self, f)
     }
 }
 
@@ -418,11 +433,17 @@ impl From<Memory> for PartitionFault {
 
 /// A rule of legal partitions that is broken, and two methods of which it is false.
 #[derive(Clone, Copy, Debug, Error)]
-#[error("rule {rule} is broken by methods {m1} and {m2}")]
 pub struct Broken {
     pub rule: u8,
     pub m1: MethodIx,
     pub m2: MethodIx,
+}
+
+impl fmt::Display for Broken {
+    fn fmt<W: fmt::Write>(&self, f: &mut fmt::Formatter<W>) -> fmt::Result {
+        f.write_str("a broken rule: ")?;
+        fmt::Debug::fmt(self, f)
+    }
 }
 
 /// Why a certificate proves nothing. Leaves count from 0.
@@ -444,7 +465,8 @@ pub enum CertFault {
 
 impl fmt::Display for CertFault {
     fn fmt<W: fmt::Write>(&self, f: &mut fmt::Formatter<W>) -> fmt::Result {
-        write!(f, "no proof: {self:?}")
+        f.write_str("no proof: ")?;
+        fmt::Debug::fmt(self, f)
     }
 }
 
@@ -482,7 +504,8 @@ pub enum ImageFault {
 
 impl fmt::Display for ImageFault {
     fn fmt<W: fmt::Write>(&self, f: &mut fmt::Formatter<W>) -> fmt::Result {
-        write!(f, "no image: {self:?}")
+        f.write_str("no image: ")?;
+        fmt::Debug::fmt(self, f)
     }
 }
 
@@ -523,7 +546,8 @@ pub enum FrameFault {
 
 impl fmt::Display for FrameFault {
     fn fmt<W: fmt::Write>(&self, f: &mut fmt::Formatter<W>) -> fmt::Result {
-        write!(f, "no frame: {self:?}")
+        f.write_str("no frame: ")?;
+        fmt::Debug::fmt(self, f)
     }
 }
 
