@@ -1,6 +1,5 @@
 -- The reader of a code item: where the instructions use what isn't set, no plain code stands.
-use Rattle.std.proofs.Common.{◌≡◌, ◌+◌, ℕ, List, Bool, false, IsTrue, ◌↔◌, replicate, subst, sym, ◌∙◌}
-use Rattle.std.proofs.lemmas.Bool.{false≢true}
+use Rattle.std.proofs.Common.{◌≡◌, ◌+◌, ℕ, List, replicate, subst, sym, ◌∙◌}
 use Rattle.cc_meaning_file.specs.Numbers.{u16_at, u32_at}
 use Rattle.cc_meaning_plain.specs.declared.plain.PlainInsn.{PlainInsn}
 use Rattle.cc_meaning_plain.specs.declared.plain.Held.TheVariants.{Nothing}

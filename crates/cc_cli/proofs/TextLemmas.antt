@@ -1,14 +1,18 @@
 -- Which numbers and names a text item spells.
-use Rattle.std.proofs.Common.{◌≡◌, ◌≢◌, ◌↔◌, ℕ, ◌+◌, ◌<◌, ◌≤◌, Bool, true, false, ◌&&◌, ◌==◌, cond, nat_lt, List, [], ◌∷◌, ◌++◌, length, get_or, take, drop, Result, Ok, Err, All, IsTrue, refl, sym, ap, subst, ◌∙◌, arith, rules}
+use Rattle.std.proofs.Common.{◌≡◌, ◌≢◌, ◌↔◌, ℕ, ◌+◌, ◌<◌, Bool, true, false, ◌&&◌, ◌==◌, nat_lt, List, [], ◌∷◌, ◌++◌, length, Option, Some, None, Result, MatchOption, IfOk, All, IsTrue, refl, sym, ap, subst, ◌∙◌, arith}
 use Rattle.std.specs.List.{list_all}
 use Rattle.std.proofs.lemmas.Bool.Decides.{nat_tests}
-use Rattle.std.proofs.lemmas.List.{take_more, same_from_push, length-take, get_or-drop}
 use Rattle.std.proofs.lemmas.List.Elements.{All-nil, All-cons}
-use Rattle.cc_meaning_file.specs.Numbers.{Stands}
+use Rattle.std.specs.declared.alloc.AllocError.{AllocError}
+use Rattle.std.proofs.lemmas.Result.{IfOk-weaker}
+use Rattle.cc_meaning_file.specs.Numbers.{u32_at, Stands}
 use Rattle.cc_meaning_file.specs.Leb128.{SpellsUleb}
-use Rattle.cc_meaning_file.specs.Mutf8.{unit_form, mutf8_bytes, SpellsMutf8}
-use Rattle.cc_meaning_file.specs.Texts.{SpellsText}
-use Rattle.cc_meaning_file.specs.Laws.{UlebAgrees}
+use Rattle.cc_meaning_file.specs.Mutf8.{unit_form, mutf8_bytes}
+use Rattle.cc_meaning_file.specs.Texts.{SpellsText, text_at}
+use Rattle.cc_meaning_file.specs.Laws.{UlebAgrees, TextAgrees}
+use Rattle.cc_meaning_plain.specs.declared.table.Table.TheVariants.{Texts, Types}
+use Rattle.cc_meaning_plain.specs.Tables.{row_at, IsRow}
+use Rattle.cc_meaning_plain.specs.Names.{TextRow, TypeRow}
 use Rattle.cc_cli.specs.Ascii.{is_ascii_unit, IsAsciiName}
 
 -- one number at most is spelled at a place
@@ -75,3 +79,45 @@ bytes_from_text agrees file at n place name ascii number text =
     let same = same_number agrees file at n place (length name) text.place number text.count in
     let stands = subst (λ bytes. Stands file text.place (bytes ++ 0 ∷ [])) (mutf8_bytes-ascii name ascii) text.text.stands in
     subst (λ p. Stands file p (name ++ 0 ∷ [])) (sym same.1) stands
+
+-- ---- texts of any units
+
+-- a text is there just where one is spelled, or it is told that there is none
+abbrev pub Reads : (List ℕ → Type 0) → Option (List ℕ) → Type 0
+Reads P read = MatchOption read ((units : List ℕ) → P units → ⊥) (λ units. P units)
+
+pub text_read : TextAgrees → (file : List ℕ) (at : ℕ) (read : Option (List ℕ)) → read ≡ text_at file at → Reads (SpellsText file at) read
+text_read agrees file at None e = λ units text. let found = (agrees file at units).1 text in absurd (cc)
+text_read agrees file at (Some units) e = (agrees file at units).0 (sym e)
+
+reads_like : (P Q : List ℕ → Type 0) → ((units : List ℕ) → P units → Q units) → ((units : List ℕ) → Q units → P units) → (read : Option (List ℕ)) → Reads P read → Reads Q read
+reads_like P Q to from None none = λ units q. none units (from units q)
+reads_like P Q to from (Some units) p = to units p
+
+pub text_row_read : (file : List ℕ) (row : ℕ) (r : Result (Option (List ℕ)) AllocError) → IsRow file Texts row →
+    IfOk r (Reads (SpellsText file (u32_at file (row_at file Texts row)))) → IfOk r (Reads (TextRow file row))
+text_row_read file row r stands read =
+    IfOk-weaker r (Reads (SpellsText file (u32_at file (row_at file Texts row)))) (Reads (TextRow file row))
+      (λ found. reads_like (SpellsText file (u32_at file (row_at file Texts row))) (TextRow file row)
+        (λ units text. record { row_stands = stands; text = text }) (λ units row. row.text) found) read
+
+pub type_row_read : (file : List ℕ) (row : ℕ) (r : Result (Option (List ℕ)) AllocError) → IsRow file Types row →
+    IfOk r (Reads (TextRow file (u32_at file (row_at file Types row)))) → IfOk r (Reads (TypeRow file row))
+type_row_read file row r stands read =
+    IfOk-weaker r (Reads (TextRow file (u32_at file (row_at file Types row)))) (Reads (TypeRow file row))
+      (λ found. reads_like (TextRow file (u32_at file (row_at file Types row))) (TypeRow file row)
+        (λ units descriptor. record { row_stands = stands; descriptor = descriptor }) (λ units row. row.descriptor) found) read
+
+pub same_text : TextAgrees → (file : List ℕ) (at : ℕ) (first second : List ℕ) → SpellsText file at first → SpellsText file at second → first ≡ second
+same_text agrees file at first second a b =
+    let e = sym ((agrees file at first).1 a) ∙ (agrees file at second).1 b in cc
+
+-- a row of types has one descriptor at most
+pub same_type : TextAgrees → (file : List ℕ) (row : ℕ) (first second : List ℕ) → TypeRow file row first → TypeRow file row second → first ≡ second
+same_type agrees file row first second a b =
+    same_text agrees file (u32_at file (row_at file Texts (u32_at file (row_at file Types row)))) first second a.descriptor.text b.descriptor.text
+
+-- a row of types has this descriptor just if it is the one that it was read to have
+pub named_is : TextAgrees → (file : List ℕ) (row : ℕ) (found name : List ℕ) (is : Bool) → TypeRow file row found → IsTrue is ↔ (found ≡ name) → IsTrue is ↔ TypeRow file row name
+named_is agrees file row found name is type same =
+    (λ e. subst (λ units. TypeRow file row units) (same.0 e) type, λ other. same.1 (same_type agrees file row found name type other))

@@ -1,8 +1,7 @@
 -- The check of uses, from its start on.
-use Rattle.std.proofs.Common.{◌≡◌, ◌≤◌, ℕ, List, take, replicate, subst, sym, ap, ◌∙◌, ◌↔◌, arith}
+use Rattle.std.proofs.Common.{◌≡◌, ◌≤◌, ℕ, List, take, replicate, subst, ap, ◌∙◌, ◌↔◌, arith}
 use Rattle.std.proofs.lemmas.List.{take-replicate}
 use Rattle.cc_meaning_plain.specs.declared.plain.PlainInsn.{PlainInsn}
-use Rattle.cc_meaning_plain.specs.declared.plain.Held.{Held}
 use Rattle.cc_meaning_plain.specs.declared.plain.Held.TheVariants.{Nothing}
 use Rattle.cc_meaning_plain.specs.Code.{UsesWhatIsSet}
 

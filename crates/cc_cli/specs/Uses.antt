@@ -1,5 +1,5 @@
 -- What one instruction uses and leaves in the registers.
-use Rattle.std.specs.Prelude.{◌≡◌, ℕ, List, Some, slice_get, slice_set}
+use Rattle.std.specs.Prelude.{◌≡◌, List, Some, slice_get, slice_set}
 use Rattle.cc_meaning_plain.specs.declared.plain.PlainInsn.{PlainInsn}
 use Rattle.cc_meaning_plain.specs.declared.plain.PlainInsn.TheVariants.{SgetOut, Const4, AddInt2Addr, InvokePrintln}
 use Rattle.cc_meaning_plain.specs.declared.plain.Held.{Held}

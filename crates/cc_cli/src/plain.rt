@@ -4,6 +4,9 @@ mod bytes;
 mod code;
 mod header;
 mod instructions;
+mod members;
 mod names;
-mod stubs;
+mod reader;
 mod uses;
+
+pub use reader::read_plain;

@@ -199,3 +199,52 @@ front_of-unit at u rest h =
 
 pub front_of-end : (at : ℕ) (rest : List ℕ) → front_of at (0 ∷ rest) ≡ Ok None
 front_of-end at rest = front_of-zero at 0 rest refl
+
+-- what isn't read fails as cut off or as no form
+if-fault : {A : Type 0} (t : Bool) (v : A) (d e : TextFault) → (if t then Ok v else Err d) ≡ Err e → e ≡ d
+if-fault true v d e h = absurd cc
+if-fault false v d e h = cc
+
+either-fault : {A : Type 0} (t : Bool) (d e f : TextFault) → (let r : Result A TextFault = if t then Err d else Err e in r) ≡ Err f → (f ≡ d) ⊎ (f ≡ e)
+either-fault true d e f h = inl cc
+either-fault false d e f h = inr cc
+
+abbrev FrontFault : ℕ → TextFault → Type 0
+FrontFault at fault = (fault ≡ CutOff) ⊎ (fault ≡ BadForm at)
+
+swapped : (at : ℕ) (fault : TextFault) → (fault ≡ BadForm at) ⊎ (fault ≡ CutOff) → FrontFault at fault
+swapped at fault (inl h) = inr h
+swapped at fault (inr h) = inl h
+
+two-fault : (at a : ℕ) (bs : List ℕ) (fault : TextFault) → front_of_two at a bs ≡ Err fault → FrontFault at fault
+unfolding front_of_two
+two-fault at a [] fault h = swapped at fault (either-fault (a == 193) (BadForm at) CutOff fault h)
+two-fault at a (b ∷ bs) fault h =
+    inr (if-fault (goes_on b && ((a - 192) * 64 + (b - 128) == 0 || nat_le 128 ((a - 192) * 64 + (b - 128)))) (Some ((a - 192) * 64 + (b - 128), 2)) (BadForm at) fault h)
+
+three-fault : (at a : ℕ) (bs : List ℕ) (fault : TextFault) → front_of_three at a bs ≡ Err fault → FrontFault at fault
+unfolding front_of_three
+three-fault at a [] fault h = inl cc
+three-fault at a (b ∷ []) fault h = either-fault (begins_three a b) CutOff (BadForm at) fault h
+three-fault at a (b ∷ c ∷ cs) fault h =
+    inr (if-fault (begins_three a b && goes_on c) (Some ((a - 224) * 4096 + (b - 128) * 64 + (c - 128), 3)) (BadForm at) fault h)
+
+pub front-fault : (at : ℕ) (bytes : List ℕ) (fault : TextFault) → front_of at bytes ≡ Err fault → (fault ≡ CutOff) ⊎ (fault ≡ BadForm at)
+front-fault at [] fault e = let cut = front_of-nil at in inl cc
+front-fault at (a ∷ bs) fault e =
+    elim (cases_lt a 128) [
+      inl low ↦ elim (cases_eq a 0) [
+        inl nought ↦ absurd (cc (front_of-zero at a bs nought))
+      | inr some ↦ absurd (cc (front_of-one at a bs (omega arith) low))
+      ]
+    | inr above ↦ elim (cases_lt a 192) [
+        inl stray ↦ let bad = front_of-stray at a bs above stray in inr cc
+      | inr above192 ↦ elim (cases_lt a 224) [
+          inl two ↦ two-fault at a bs fault (sym (front_of-two at a bs above192 two) ∙ e)
+        | inr above224 ↦ elim (cases_lt a 240) [
+            inl three ↦ three-fault at a bs fault (sym (front_of-three at a bs above224 three) ∙ e)
+          | inr high ↦ let bad = front_of-high at a bs high in inr cc
+          ]
+        ]
+      ]
+    ]

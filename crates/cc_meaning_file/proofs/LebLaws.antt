@@ -7,7 +7,7 @@ use Rattle.std.proofs.lemmas.List.{length-take-le, length-take, length-drop}
 use Rattle.cc_meaning.specs.declared.fault.LebFault.{LebFault}
 use Rattle.cc_meaning.specs.declared.fault.LebFault.TheVariants.{CutOff, TooBig}
 use Rattle.cc_meaning_file.specs.Leb128.{IsLeb, leb_value, LebStands, SpellsUleb, one_more, leb_size, uleb_judged, uleb_sized, uleb_at}
-use Rattle.cc_meaning_file.specs.Laws.{UlebAgrees}
+use Rattle.cc_meaning_file.specs.Laws.{UlebAgrees, OneUleb}
 
 IsLeb-cons : (b : ℕ) (bs : List ℕ) → 128 ≤ b → IsLeb bs → IsLeb (b ∷ bs)
 IsLeb-cons b [] h k = absurd k
@@ -137,3 +137,10 @@ uleb_read bytes at n next s =
 
 pub uleb_agrees : UlebAgrees
 uleb_agrees bytes at n next = (uleb_spelled bytes at n next, uleb_read bytes at n next)
+
+pub one_uleb : OneUleb
+one_uleb bytes at m n here there s t =
+    let first : uleb_at bytes at ≡ Ok (m, here) = uleb_read bytes at m here s in
+    let second : uleb_at bytes at ≡ Ok (n, there) = uleb_read bytes at n there t in
+    let same : (m, here) ≡ (n, there) = cc in
+    (ap (λ (p : ℕ × ℕ). p.0) same, ap (λ (p : ℕ × ℕ). p.1) same)

@@ -6,11 +6,11 @@ use Rattle.std.proofs.lemmas.Bool.Decides.{nat_tests}
 use Rattle.std.proofs.lemmas.List.{append_assoc, length-append, length-drop, take_at, drop_at, take-append-drop}
 use Rattle.std.proofs.lemmas.List.Elements.{All-nil, All-cons, All-head, All-tail}
 use Rattle.cc_meaning.specs.declared.fault.TextFault.{TextFault}
-use Rattle.cc_meaning.specs.declared.fault.TextFault.TheVariants.{CutOff, BadForm, BadCount}
+use Rattle.cc_meaning.specs.declared.fault.TextFault.TheVariants.{CutOff, BadForm, BadCount, Memory}
 use Rattle.cc_meaning_file.specs.Numbers.{Stands}
 use Rattle.cc_meaning_file.specs.Mutf8.{SpellsMutf8, Front, unit_form, mutf8_bytes, front_of, behind_unit, text_within, text_of, counted, mutf8_at}
-use Rattle.cc_meaning_file.specs.Laws.{Mutf8Agrees}
-use Rattle.cc_meaning_file.proofs.Forms.{IsForm, Found, front_of-sound, front_of-unit, front_of-end}
+use Rattle.cc_meaning_file.specs.Laws.{Mutf8Agrees, Mutf8Answers, TextSteps}
+use Rattle.cc_meaning_file.proofs.Forms.{IsForm, Found, front_of-sound, front_of-unit, front_of-end, front-fault}
 
 abbrev Small : List ℕ → Type 0
 Small units = All (λ u. u < 65536) units
@@ -202,7 +202,7 @@ counted-Ok count (Ok text) units next h = elim (cases_eq (length text.0) count) 
     | inr other ↦ let e : cond (length text.0 == count) (Ok text) (Err BadCount) ≡ Err BadCount = grind (arith, nat_tests) in absurd cc
     ]
 
-pub counted-length : (count : ℕ) (r : Text) (units : List ℕ) (next : ℕ) → counted count r ≡ Ok (units, next) → length units ≡ count
+counted-length : (count : ℕ) (r : Text) (units : List ℕ) (next : ℕ) → counted count r ≡ Ok (units, next) → length units ≡ count
 unfolding counted
 counted-length count (Err fault) units next h = absurd cc
 counted-length count (Ok text) units next h = elim (cases_eq (length text.0) count) [
@@ -241,3 +241,61 @@ mutf8_read bytes at units next s =
 
 pub mutf8_agrees : Mutf8Agrees
 mutf8_agrees bytes at units next = (mutf8_spelled bytes at units next, mutf8_read bytes at units next)
+
+behind_unit-Err : (u : ℕ) (r : Text) (fault : TextFault) → behind_unit u r ≡ Err fault → r ≡ Err fault
+behind_unit-Err u (Ok text) fault h = absurd cc
+behind_unit-Err u (Err other) fault h = cc
+
+-- no reading fails for want of memory
+within-faults : (steps at : ℕ) (bytes : List ℕ) → text_within steps at bytes ≡ Err Memory → ⊥
+within-faults zero at bytes h = absurd (cc (within-zero at bytes))
+within-faults (suc steps) at bytes h =
+    elim (front_cases at bytes) [
+      fails fault e ↦
+      let same = within-Err steps at bytes fault e in
+      let memory : fault ≡ Memory = cc in
+      elim (front-fault at bytes fault e) [ inl cut ↦ absurd cc | inr bad ↦ absurd cc ]
+    | ends e b ↦ absurd (cc (within-None steps at bytes e))
+    | forms u n e f ↦ within-faults steps (at + n) (drop n bytes) (behind_unit-Err u (text_within steps (at + n) (drop n bytes)) Memory (sym (within-Some steps at bytes u n e) ∙ h))
+    ]
+
+text_of-faults : (at : ℕ) (bytes : List ℕ) → text_of at bytes ≡ Err Memory → ⊥
+unfolding text_of
+text_of-faults at bytes h = within-faults (suc (length bytes)) at bytes h
+
+counted-faults : (count : ℕ) (r : Text) → counted count r ≡ Err Memory → r ≡ Err Memory
+unfolding counted
+counted-faults count (Err fault) h = cc
+counted-faults count (Ok text) h = elim (cases_eq (length text.0) count) [
+      inl same ↦ let e : cond (length text.0 == count) (Ok text) (Err BadCount) ≡ Ok text = grind (arith, nat_tests) in absurd cc
+    | inr other ↦ let e : cond (length text.0 == count) (Ok text) (Err BadCount) ≡ Err BadCount = grind (arith, nat_tests) in absurd cc
+    ]
+
+mutf8_at-faults : (bytes : List ℕ) (at count : ℕ) → mutf8_at bytes at count ≡ Err Memory → ⊥
+unfolding mutf8_at
+mutf8_at-faults bytes at count h = text_of-faults at (drop at bytes) (counted-faults count (text_of at (drop at bytes)) h)
+
+pub mutf8_at-length : (bytes : List ℕ) (at count : ℕ) (units : List ℕ) (next : ℕ) → mutf8_at bytes at count ≡ Ok (units, next) → length units ≡ count
+unfolding mutf8_at
+mutf8_at-length bytes at count units next h = counted-length count (text_of at (drop at bytes)) units next h
+
+pub mutf8_answers : Mutf8Answers
+mutf8_answers = record { counted = mutf8_at-length; faults = mutf8_at-faults }
+
+pub text_steps : TextSteps
+text_steps = record {
+    fails = text_of-Err;
+    ends = text_of-None;
+    stands = stands_some;
+    goes_on = text_of-Some;
+    faults = text_of-faults;
+    some = λ at bytes u n h. (form_fits at bytes u n h).0;
+    fits = λ at bytes u n h. (form_fits at bytes u n h).1
+  }
+  where
+    stands_some : (at : ℕ) (bytes : List ℕ) → front_of at bytes ≡ Ok None → 0 < length bytes
+    stands_some at bytes h = elim (front_cases at bytes) [
+        fails fault e ↦ absurd cc
+      | ends e b ↦ omega (arith, ap length b)
+      | forms u n e f ↦ absurd cc
+      ]

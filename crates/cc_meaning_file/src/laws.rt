@@ -1,6 +1,6 @@
-ghost use Rattle.cc_meaning_file.specs.Laws.{UlebAgrees, SlebAgrees, Mutf8Agrees, TextAgrees};
+ghost use Rattle.cc_meaning_file.specs.Laws.{UlebAgrees, SlebAgrees, Mutf8Agrees, Mutf8Answers, TextSteps, TextAgrees, OneUleb, OneText};
 
-/// A number in ULEB128 is read exactly where it is spelled, so at most one is spelled at a place.
+/// A number in ULEB128 is read exactly where it is spelled.
 pub fn uleb_agrees()
     ensures { UlebAgrees }
 {
@@ -18,8 +18,32 @@ pub fn mutf8_agrees()
 {
 }
 
+/// A text that is read has as many units as asked for, and no reading fails for want of memory.
+pub fn mutf8_answers()
+    ensures { Mutf8Answers }
+{
+}
+
 /// A text item is read exactly where it is spelled.
 pub fn text_agrees()
     ensures { TextAgrees }
+{
+}
+
+/// A text in MUTF-8 is read form by form.
+pub fn text_steps()
+    ensures { TextSteps }
+{
+}
+
+/// At one place stands at most one number in ULEB128.
+pub fn one_uleb()
+    ensures { OneUleb }
+{
+}
+
+/// At one place stands at most one text item.
+pub fn one_text()
+    ensures { OneText }
 {
 }

@@ -3,4 +3,6 @@
 
 mod laws;
 
-pub use laws::{mutf8_agrees, sleb_agrees, text_agrees, uleb_agrees};
+pub use laws::{
+    mutf8_agrees, mutf8_answers, one_text, one_uleb, sleb_agrees, text_agrees, text_steps, uleb_agrees,
+};

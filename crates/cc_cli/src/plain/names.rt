@@ -1,17 +1,20 @@
 //! What the rows of a file name.
 
-ghost use Rattle.std.specs.Prelude.{◌≡◌, ◌+◌, ◌≤◌, ◌↔◌, ◌∷◌, ◌++◌, [], IsTrue, length, codes};
-ghost use Rattle.cc_meaning_file.specs.Numbers.{Within, Stands};
+ghost use Rattle.std.specs.Prelude.{◌≡◌, ◌+◌, ◌≤◌, ◌↔◌, ◌∷◌, ◌++◌, [], ℕ, List, IsTrue, IfOk, MatchOption, length};
+ghost use Rattle.cc_meaning_file.specs.Numbers.{u16_at, u32_at, Within, Stands};
 ghost use Rattle.cc_meaning_file.specs.Texts.{SpellsText};
-ghost use Rattle.cc_meaning_plain.specs.Tables.{IsHeader, HasTables};
-ghost use Rattle.cc_meaning_plain.specs.Names.{TextRow, TypeRow, OneType, PrototypeRow, FieldRow, MethodRow, IsOutField, IsPrintln};
+ghost use Rattle.cc_meaning_plain.specs.Tables.{row_at, IsRow, IsHeader, HasTables};
+ghost use Rattle.cc_meaning_plain.specs.Names.{TextRow, TypeRow, OneType, PrototypeRow, FieldRow, MethodRow, IsOutField, IsPrintln, IsMain};
 ghost use Rattle.cc_cli.specs.Ascii.{IsAsciiName};
 
 use super::bytes::{u16_at, u32_at};
 use super::header::{begins, row_at, row_count};
-use super::stubs::uleb;
-use cc_meaning_file::uleb_agrees;
+use cc_meaning::fault::TextFault;
+use cc_meaning::lists::Units;
+use cc_meaning_file::{text_agrees, uleb_agrees};
 use cc_meaning_plain::Table;
+use cc_text::{text, uleb};
+use std::alloc::{AllocError, Global};
 
 /// Whether these bytes and a zero byte stand at `at`.
 fn stands_ended(file: &[u8], at: usize, name: &[u8]) -> bool
@@ -115,6 +118,23 @@ fn is_field_row(file: &[u8], row: u16, class: &[u8], kind: &[u8], name: &[u8]) -
         && is_text_row(file, u32_at(file, at + 4), name)
 }
 
+/// Whether a row of methods has this result, one parameter and name, whatever its class.
+fn has_form(file: &[u8], row: u32, gives: &[u8], takes: &[u8], name: &[u8]) -> bool
+    requires header { IsHeader file.now }
+    requires tables { HasTables file.now }
+    requires row { IsRow file.now Table.Methods row }
+    requires ascii_gives { IsAsciiName gives.now }
+    requires ascii_takes { IsAsciiName takes.now }
+    requires ascii_name { IsAsciiName name.now }
+    ensures { IsTrue result
+        ↔ (PrototypeRow file.now (u16_at file.now (row_at file.now Table.Methods row + 2)) gives.now takes.now
+        × TextRow file.now (u32_at file.now (row_at file.now Table.Methods row + 4)) name.now) }
+{
+    let at = row_at(file, Table::Methods, row);
+    is_prototype_row(file, u32::from(u16_at(file, at + 2)), gives, takes)
+        && is_text_row(file, u32_at(file, at + 4), name)
+}
+
 /// Whether a row of methods has this class, result, one parameter and name.
 fn is_method_row(
     file: &[u8],
@@ -137,11 +157,7 @@ fn is_method_row(
         return false;
     }
     let at = row_at(file, Table::Methods, row);
-    if !is_type_row(file, u32::from(u16_at(file, at)), class) {
-        return false;
-    }
-    is_prototype_row(file, u32::from(u16_at(file, at + 2)), gives, takes)
-        && is_text_row(file, u32_at(file, at + 4), name)
+    is_type_row(file, u32::from(u16_at(file, at)), class) && has_form(file, row, gives, takes, name)
 }
 
 /// Whether a row of fields is `System.out`.
@@ -166,4 +182,76 @@ pub fn is_println(file: &[u8], row: u16) -> bool
     ensures { IsTrue result ↔ IsPrintln file.now row }
 {
     is_method_row(file, row, b"Ljava/io/PrintStream;", b"V", b"I", b"println")
+}
+
+/// The text item at `at`, where there is one.
+fn text_item(alloc: Global, file: &[u8], at: u32) -> Result<Option<Units>, AllocError>
+    ensures { IfOk result (λ read. MatchOption read
+        ((units : List ℕ) → SpellsText file.now at units → ⊥)
+        (λ units. SpellsText file.now at units)) }
+{
+    match text(alloc, file, at as usize) {
+        Ok(units) => Ok(Some(Units::from_vec(units))),
+        Err(fault) => match fault {
+            TextFault::Memory => Err(AllocError),
+            _ => Ok(None),
+        },
+    }
+}
+
+/// The text of a row of texts, where it has one.
+fn text_row(alloc: Global, file: &[u8], row: u32) -> Result<Option<Units>, AllocError>
+    requires header { IsHeader file.now }
+    requires tables { HasTables file.now }
+    ensures { IfOk result (λ read. MatchOption read
+        ((units : List ℕ) → TextRow file.now row units → ⊥)
+        (λ units. TextRow file.now row units)) }
+{
+    if row >= row_count(file, Table::Texts) {
+        return Ok(None);
+    }
+    text_item(alloc, file, u32_at(file, row_at(file, Table::Texts, row)))
+}
+
+/// The descriptor of a row of types, where it has one.
+pub fn class_name(alloc: Global, file: &[u8], row: u32) -> Result<Option<Units>, AllocError>
+    requires header { IsHeader file.now }
+    requires tables { HasTables file.now }
+    ensures { IfOk result (λ read. MatchOption read
+        ((units : List ℕ) → TypeRow file.now row units → ⊥)
+        (λ units. TypeRow file.now row units)) }
+{
+    if row >= row_count(file, Table::Types) {
+        return Ok(None);
+    }
+    text_row(alloc, file, u32_at(file, row_at(file, Table::Types, row)))
+}
+
+/// Whether a row of types has this descriptor, of any units.
+fn is_named(alloc: Global, file: &[u8], row: u32, name: &[u16]) -> Result<bool, AllocError>
+    requires header { IsHeader file.now }
+    requires tables { HasTables file.now }
+    ensures { IfOk result (λ is. IsTrue is ↔ TypeRow file.now row name.now) }
+{
+    text_agrees();
+    let Some(found) = class_name(alloc, file, row)? else {
+        return Ok(false);
+    };
+    Ok(found.as_slice() == name)
+}
+
+/// Whether a row of methods is the `main` of this class, which it belongs to by name.
+pub fn is_main(alloc: Global, file: &[u8], class: &[u16], row: u32) -> Result<bool, AllocError>
+    requires header { IsHeader file.now }
+    requires tables { HasTables file.now }
+    ensures { IfOk result (λ is. IsTrue is ↔ IsMain file.now class.now row) }
+{
+    if row >= row_count(file, Table::Methods) {
+        return Ok(false);
+    }
+    let at = row_at(file, Table::Methods, row);
+    if !is_named(alloc, file, u32::from(u16_at(file, at)), class)? {
+        return Ok(false);
+    }
+    Ok(has_form(file, row, b"V", b"[Ljava/lang/String;", b"main"))
 }

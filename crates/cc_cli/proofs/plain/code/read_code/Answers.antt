@@ -1,4 +1,4 @@
-use Rattle.std.proofs.Common.{IsTrue, refl, ◌≡◌, ◌+◌, arith, subst, sym, replicate}
+use Rattle.std.proofs.Common.{IsTrue, refl, ◌≡◌, ◌+◌, subst, sym, replicate}
 use Rattle.cc_meaning_file.specs.Numbers.{u32_at}
 use Rattle.cc_meaning_plain.specs.declared.plain.Held.TheVariants.{Nothing}
 use Rattle.cc_meaning_plain.specs.Code.{UsesWhatIsSet}

@@ -1,6 +1,6 @@
-use Rattle.std.proofs.Common.{ap, sym, subst, ◌∙◌}
+use Rattle.std.proofs.Common.{subst}
 use Rattle.cc_meaning_file.specs.Leb128.{SpellsUleb}
-use Rattle.cc_cli.proofs.TextLemmas.{no_text, other_count, text_from_bytes, bytes_from_text}
+use Rattle.cc_cli.proofs.TextLemmas.{other_count, text_from_bytes, bytes_from_text}
 use Rattle.cc_cli.proofs.plain.names.is_text.Goals as goal
 
 pub returns-then-count-name : goal.returns-then-count-name
