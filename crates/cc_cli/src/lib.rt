@@ -8,6 +8,3 @@ mod run;
 mod shown;
 
 pub use run::run_words;
-
-#[cfg(test)]
-mod tests;

@@ -1,14 +1,14 @@
-mod sample;
+//! The one call, over objects in memory.
 
-use crate::run_words;
+use crate::sample::{
+    CHECKSUM, CLASS, CLASS_COUNT, CODE, ENDIAN_TAG, FILE_SIZE, HEADER_SIZE, MAP, SAMPLE, SIGNATURE,
+    TEXT_COUNT,
+};
+use cc_cli::run_words;
 use cc_meaning::file::{Files, ShelfFile};
 use cc_meaning::lists::{Bytes, CallList};
 use cc_meaning::text::Text;
 use cc_outside::{CannedEnd, CannedLink, MemoryShelf, MemorySink};
-use sample::{
-    CHECKSUM, CLASS, CLASS_COUNT, CODE, ENDIAN_TAG, FILE_SIZE, HEADER_SIZE, MAP, SAMPLE, SIGNATURE,
-    TEXT_COUNT,
-};
 use std::alloc::{AllocError, Global};
 use std::test::Fail;
 

@@ -1,0 +1,7 @@
+//! Tests of the one call. They stand in a crate of their own, since a crate with tests is proved twice.
+#![tactic(auto)]
+
+#[cfg(test)]
+mod run;
+#[cfg(test)]
+mod sample;
