@@ -1,10 +1,10 @@
 -- Each form in MUTF-8 is read as its unit, and what is read as a unit is its form.
-use Rattle.std.proofs.Common.{◌≡◌, ◌≢◌, ℕ, zero, suc, ◌+◌, ◌-◌, ◌*◌, ◌/◌, ◌%◌, ◌<◌, ◌≤◌, ◌⊎◌, Bool, true, false, cond, List, [], ◌∷◌, ◌++◌, length, take, drop, Option, Some, None, Result, Ok, Err, refl, sym, ap, ◌∙◌, subst, inl, inr, arith}
-use Rattle.std.specs.Prelude.{nat_lt, nat_le, ◌==◌, ◌&&◌, ◌||◌, if◌then◌else◌}
+use Rattle.std.proofs.Common.{◌≡◌, ℕ, ◌+◌, ◌-◌, ◌*◌, ◌/◌, ◌%◌, ◌<◌, ◌≤◌, ◌⊎◌, Bool, true, false, List, [], ◌∷◌, ◌++◌, length, drop, Some, None, Result, Ok, Err, refl, sym, ap, ◌∙◌, subst, inl, inr, arith}
+use Rattle.std.specs.Prelude.{nat_le, ◌==◌, ◌&&◌, ◌||◌, if◌then◌else◌}
 use Rattle.std.proofs.lemmas.Bool.{cases_lt, cases_eq}
 use Rattle.std.proofs.lemmas.Bool.Decides.{nat_tests}
 use Rattle.cc_meaning.specs.declared.fault.TextFault.{TextFault}
-use Rattle.cc_meaning.specs.declared.fault.TextFault.TheVariants.{CutOff, BadForm, BadCount}
+use Rattle.cc_meaning.specs.declared.fault.TextFault.TheVariants.{CutOff, BadForm}
 use Rattle.cc_meaning_file.specs.Mutf8.{Front, two_bytes, three_bytes, unit_form, goes_on, begins_three, front_of_two, front_of_three, front_of}
 
 unit_form-one : (u : ℕ) → 0 < u → u < 128 → unit_form u ≡ u ∷ []
@@ -84,10 +84,10 @@ pub record IsForm (bytes : List ℕ) (u n : ℕ) : Type 0 where
 
 form_from : (bytes part rest : List ℕ) (u n : ℕ) → unit_form u ≡ part → length part ≡ n → bytes ≡ part ++ rest → drop n bytes ≡ rest → u < 65536 → IsForm bytes u n
 form_from bytes part rest u n e w b d h = record {
-    size = sym w ∙ ap length (sym e);
-    form = b ∙ ap (λ p. p ++ rest) (sym e) ∙ ap (λ r. unit_form u ++ r) (sym d);
-    small = h
-  }
+  size = sym w ∙ ap length (sym e);
+  form = b ∙ ap (λ p. p ++ rest) (sym e) ∙ ap (λ r. unit_form u ++ r) (sym d);
+  small = h;
+}
 
 two_bytes_are : (a b u : ℕ) → 192 ≤ a → 128 ≤ b → b < 192 → u ≡ (a - 192) * 64 + (b - 128) → two_bytes u ≡ a ∷ b ∷ []
 two_bytes_are a b u h k l e =
@@ -166,17 +166,17 @@ unfolding Found
 front_of-sound at [] f e = absurd (cc (front_of-nil at))
 front_of-sound at (a ∷ bs) f e =
     elim (cases_lt a 128) [
-      inl low ↦ elim (cases_eq a 0) [
-        inl nought ↦ let at_end = front_of-zero at a bs nought in inl (cc, ap (λ x. x ∷ bs) nought)
-      | inr some ↦ let one = front_of-one at a bs (omega arith) low in inr (a, 1, cc, found_one a bs (omega arith) low)
+      | inl low ↦ elim (cases_eq a 0) [
+        | inl nought ↦ let at_end = front_of-zero at a bs nought in inl (cc, ap (λ x. x ∷ bs) nought)
+        | inr some ↦ let one = front_of-one at a bs (omega arith) low in inr (a, 1, cc, found_one a bs (omega arith) low)
       ]
-    | inr above ↦ elim (cases_lt a 192) [
-        inl stray ↦ absurd (cc (front_of-stray at a bs above stray))
-      | inr above192 ↦ elim (cases_lt a 224) [
-          inl two ↦ inr (front_of_two-sound at a bs f above192 two (sym (front_of-two at a bs above192 two) ∙ e))
-        | inr above224 ↦ elim (cases_lt a 240) [
-            inl three ↦ inr (front_of_three-sound at a bs f above224 three (sym (front_of-three at a bs above224 three) ∙ e))
-          | inr high ↦ absurd (cc (front_of-high at a bs high))
+      | inr above ↦ elim (cases_lt a 192) [
+        | inl stray ↦ absurd (cc (front_of-stray at a bs above stray))
+        | inr above192 ↦ elim (cases_lt a 224) [
+          | inl two ↦ inr (front_of_two-sound at a bs f above192 two (sym (front_of-two at a bs above192 two) ∙ e))
+          | inr above224 ↦ elim (cases_lt a 240) [
+            | inl three ↦ inr (front_of_three-sound at a bs f above224 three (sym (front_of-three at a bs above224 three) ∙ e))
+            | inr high ↦ absurd (cc (front_of-high at a bs high))
           ]
         ]
       ]
@@ -187,14 +187,14 @@ pub front_of-unit : (at u : ℕ) (rest : List ℕ) → u < 65536 → front_of at
 front_of-unit at u rest h =
     let F : List ℕ → Type 0 = λ part. front_of at (part ++ rest) ≡ Ok (Some (u, length part)) in
     elim (cases_lt u 2048) [
-      inl low ↦ elim (cases_lt u 128) [
-        inl small ↦ elim (cases_eq u 0) [
-          inl nought ↦ subst F (sym (unit_form-two u (inl nought) low)) (front_of-two at (192 + u / 64) ((128 + u % 64) ∷ rest) (omega arith) (omega arith) ∙ front_of_two-unit at u rest (inl nought) low)
-        | inr some ↦ subst F (sym (unit_form-one u (omega arith) small)) (front_of-one at u rest (omega arith) small)
+      | inl low ↦ elim (cases_lt u 128) [
+        | inl small ↦ elim (cases_eq u 0) [
+          | inl nought ↦ subst F (sym (unit_form-two u (inl nought) low)) (front_of-two at (192 + u / 64) ((128 + u % 64) ∷ rest) (omega arith) (omega arith) ∙ front_of_two-unit at u rest (inl nought) low)
+          | inr some ↦ subst F (sym (unit_form-one u (omega arith) small)) (front_of-one at u rest (omega arith) small)
         ]
-      | inr large ↦ subst F (sym (unit_form-two u (inr large) low)) (front_of-two at (192 + u / 64) ((128 + u % 64) ∷ rest) (omega arith) (omega arith) ∙ front_of_two-unit at u rest (inr large) low)
+        | inr large ↦ subst F (sym (unit_form-two u (inr large) low)) (front_of-two at (192 + u / 64) ((128 + u % 64) ∷ rest) (omega arith) (omega arith) ∙ front_of_two-unit at u rest (inr large) low)
       ]
-    | inr high ↦ subst F (sym (unit_form-three u high)) (front_of-three at (224 + u / 4096) ((128 + u / 64 % 64) ∷ (128 + u % 64) ∷ rest) (omega arith) (omega arith) ∙ front_of_three-unit at u rest high h)
+      | inr high ↦ subst F (sym (unit_form-three u high)) (front_of-three at (224 + u / 4096) ((128 + u / 64 % 64) ∷ (128 + u % 64) ∷ rest) (omega arith) (omega arith) ∙ front_of_three-unit at u rest high h)
     ]
 
 pub front_of-end : (at : ℕ) (rest : List ℕ) → front_of at (0 ∷ rest) ≡ Ok None
@@ -233,17 +233,17 @@ pub front-fault : (at : ℕ) (bytes : List ℕ) (fault : TextFault) → front_of
 front-fault at [] fault e = let cut = front_of-nil at in inl cc
 front-fault at (a ∷ bs) fault e =
     elim (cases_lt a 128) [
-      inl low ↦ elim (cases_eq a 0) [
-        inl nought ↦ absurd (cc (front_of-zero at a bs nought))
-      | inr some ↦ absurd (cc (front_of-one at a bs (omega arith) low))
+      | inl low ↦ elim (cases_eq a 0) [
+        | inl nought ↦ absurd (cc (front_of-zero at a bs nought))
+        | inr some ↦ absurd (cc (front_of-one at a bs (omega arith) low))
       ]
-    | inr above ↦ elim (cases_lt a 192) [
-        inl stray ↦ let bad = front_of-stray at a bs above stray in inr cc
-      | inr above192 ↦ elim (cases_lt a 224) [
-          inl two ↦ two-fault at a bs fault (sym (front_of-two at a bs above192 two) ∙ e)
-        | inr above224 ↦ elim (cases_lt a 240) [
-            inl three ↦ three-fault at a bs fault (sym (front_of-three at a bs above224 three) ∙ e)
-          | inr high ↦ let bad = front_of-high at a bs high in inr cc
+      | inr above ↦ elim (cases_lt a 192) [
+        | inl stray ↦ let bad = front_of-stray at a bs above stray in inr cc
+        | inr above192 ↦ elim (cases_lt a 224) [
+          | inl two ↦ two-fault at a bs fault (sym (front_of-two at a bs above192 two) ∙ e)
+          | inr above224 ↦ elim (cases_lt a 240) [
+            | inl three ↦ three-fault at a bs fault (sym (front_of-three at a bs above224 three) ∙ e)
+            | inr high ↦ let bad = front_of-high at a bs high in inr cc
           ]
         ]
       ]

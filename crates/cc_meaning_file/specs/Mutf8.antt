@@ -72,10 +72,10 @@ unfoldable pub text_within : ℕ → ℕ → List ℕ → Result (List ℕ × �
 text_within zero at bytes = Err CutOff
 text_within (suc steps) at bytes =
     elim (front_of at bytes) [
-      Err fault ↦ Err fault
-    | Ok front ↦ elim front [
-        None ↦ Ok ([], at + 1)
-      | Some form ↦ behind_unit form.0 (text_within steps (at + form.1) (drop form.1 bytes))
+      | Err fault ↦ Err fault
+      | Ok front ↦ elim front [
+        | None ↦ Ok ([], at + 1)
+        | Some form ↦ behind_unit form.0 (text_within steps (at + form.1) (drop form.1 bytes))
       ]
     ]
 
