@@ -7,44 +7,44 @@ use Rattle.cc_meaning.specs.declared.fault.TextFault.{TextFault}
 use Rattle.cc_meaning.specs.declared.fault.TextFault.TheVariants.{CutOff, BadForm}
 use Rattle.cc_meaning_file.specs.Mutf8.{Front, two_bytes, three_bytes, unit_form, goes_on, begins_three, front_of_two, front_of_three, front_of}
 
-unit_form-one : (u : ℕ) → 0 < u → u < 128 → unit_form u ≡ u ∷ []
+pub unit_form-one : (u : ℕ) → 0 < u → u < 128 → unit_form u ≡ u ∷ []
 unfolding unit_form
 unit_form-one u h k = grind (arith, nat_tests)
 
-unit_form-two : (u : ℕ) → (u ≡ 0) ⊎ (128 ≤ u) → u < 2048 → unit_form u ≡ two_bytes u
+pub unit_form-two : (u : ℕ) → (u ≡ 0) ⊎ (128 ≤ u) → u < 2048 → unit_form u ≡ two_bytes u
 unfolding unit_form
 unit_form-two u h k = grind (arith, nat_tests)
 
-unit_form-three : (u : ℕ) → 2048 ≤ u → unit_form u ≡ three_bytes u
+pub unit_form-three : (u : ℕ) → 2048 ≤ u → unit_form u ≡ three_bytes u
 unfolding unit_form
 unit_form-three u h = grind (arith, nat_tests)
 
 -- what stands in front, by the first byte
-front_of-zero : (at a : ℕ) (bs : List ℕ) → a ≡ 0 → front_of at (a ∷ bs) ≡ Ok None
+pub front_of-zero : (at a : ℕ) (bs : List ℕ) → a ≡ 0 → front_of at (a ∷ bs) ≡ Ok None
 unfolding front_of
 front_of-zero at a bs h = grind (arith, nat_tests)
 
-front_of-one : (at a : ℕ) (bs : List ℕ) → 0 < a → a < 128 → front_of at (a ∷ bs) ≡ Ok (Some (a, 1))
+pub front_of-one : (at a : ℕ) (bs : List ℕ) → 0 < a → a < 128 → front_of at (a ∷ bs) ≡ Ok (Some (a, 1))
 unfolding front_of
 front_of-one at a bs h k = grind (arith, nat_tests)
 
-front_of-stray : (at a : ℕ) (bs : List ℕ) → 128 ≤ a → a < 192 → front_of at (a ∷ bs) ≡ Err (BadForm at)
+pub front_of-stray : (at a : ℕ) (bs : List ℕ) → 128 ≤ a → a < 192 → front_of at (a ∷ bs) ≡ Err (BadForm at)
 unfolding front_of
 front_of-stray at a bs h k = grind (arith, nat_tests)
 
-front_of-two : (at a : ℕ) (bs : List ℕ) → 192 ≤ a → a < 224 → front_of at (a ∷ bs) ≡ front_of_two at a bs
+pub front_of-two : (at a : ℕ) (bs : List ℕ) → 192 ≤ a → a < 224 → front_of at (a ∷ bs) ≡ front_of_two at a bs
 unfolding front_of
 front_of-two at a bs h k = grind (arith, nat_tests)
 
-front_of-three : (at a : ℕ) (bs : List ℕ) → 224 ≤ a → a < 240 → front_of at (a ∷ bs) ≡ front_of_three at a bs
+pub front_of-three : (at a : ℕ) (bs : List ℕ) → 224 ≤ a → a < 240 → front_of at (a ∷ bs) ≡ front_of_three at a bs
 unfolding front_of
 front_of-three at a bs h k = grind (arith, nat_tests)
 
-front_of-high : (at a : ℕ) (bs : List ℕ) → 240 ≤ a → front_of at (a ∷ bs) ≡ Err (BadForm at)
+pub front_of-high : (at a : ℕ) (bs : List ℕ) → 240 ≤ a → front_of at (a ∷ bs) ≡ Err (BadForm at)
 unfolding front_of
 front_of-high at a bs h = grind (arith, nat_tests)
 
-front_of-nil : (at : ℕ) → front_of at [] ≡ Err CutOff
+pub front_of-nil : (at : ℕ) → front_of at [] ≡ Err CutOff
 unfolding front_of
 front_of-nil at = refl
 
@@ -57,7 +57,7 @@ if-Err : {A : Type 0} (t : Bool) (d e : TextFault) (w : A) → (if t then Err d 
 if-Err true d e w h = cc
 if-Err false d e w h = cc
 
-goes_on-true : (b : ℕ) → 128 ≤ b → b < 192 → goes_on b ≡ true
+pub goes_on-true : (b : ℕ) → 128 ≤ b → b < 192 → goes_on b ≡ true
 goes_on-true b h k = grind (arith, nat_tests)
 
 goes_on-is : (b : ℕ) → goes_on b ≡ true → (128 ≤ b) × (b < 192)
@@ -89,13 +89,13 @@ form_from bytes part rest u n e w b d h = record {
   small = h;
 }
 
-two_bytes_are : (a b u : ℕ) → 192 ≤ a → 128 ≤ b → b < 192 → u ≡ (a - 192) * 64 + (b - 128) → two_bytes u ≡ a ∷ b ∷ []
+pub two_bytes_are : (a b u : ℕ) → 192 ≤ a → 128 ≤ b → b < 192 → u ≡ (a - 192) * 64 + (b - 128) → two_bytes u ≡ a ∷ b ∷ []
 two_bytes_are a b u h k l e =
     let first : 192 + u / 64 ≡ a = omega arith in
     let second : 128 + u % 64 ≡ b = omega arith in
     cc
 
-three_bytes_are : (a b c u : ℕ) → 224 ≤ a → 128 ≤ b → b < 192 → 128 ≤ c → c < 192 → u ≡ (a - 224) * 4096 + (b - 128) * 64 + (c - 128) → three_bytes u ≡ a ∷ b ∷ c ∷ []
+pub three_bytes_are : (a b c u : ℕ) → 224 ≤ a → 128 ≤ b → b < 192 → 128 ≤ c → c < 192 → u ≡ (a - 224) * 4096 + (b - 128) * 64 + (c - 128) → three_bytes u ≡ a ∷ b ∷ c ∷ []
 three_bytes_are a b c u h k l m n e =
     let first : 224 + u / 4096 ≡ a = omega arith in
     let second : 128 + u / 64 % 64 ≡ b = omega arith in
@@ -124,7 +124,7 @@ front_of_two-sound at a (b ∷ bs) f h k e =
     nought_or_large u h = elim (cases_eq u 0) [ inl e ↦ inl e | inr n ↦ inr (grind (arith, nat_tests)) ]
 
 -- the forms of three bytes
-begins_three-is : (a b : ℕ) → begins_three a b ≡ true → (128 ≤ b) × (b < 192) × (32 ≤ (a - 224) * 64 + (b - 128))
+pub begins_three-is : (a b : ℕ) → begins_three a b ≡ true → (128 ≤ b) × (b < 192) × (32 ≤ (a - 224) * 64 + (b - 128))
 begins_three-is a b h =
     let parts = and-true (goes_on b) (nat_le 32 ((a - 224) * 64 + (b - 128))) h in
     let on = goes_on-is b parts.0 in
@@ -201,7 +201,7 @@ pub front_of-end : (at : ℕ) (rest : List ℕ) → front_of at (0 ∷ rest) ≡
 front_of-end at rest = front_of-zero at 0 rest refl
 
 -- what isn't read fails as cut off or as no form
-if-fault : {A : Type 0} (t : Bool) (v : A) (d e : TextFault) → (if t then Ok v else Err d) ≡ Err e → e ≡ d
+pub if-fault : {A : Type 0} (t : Bool) (v : A) (d e : TextFault) → (if t then Ok v else Err d) ≡ Err e → e ≡ d
 if-fault true v d e h = absurd cc
 if-fault false v d e h = cc
 

@@ -2,5 +2,6 @@ mod Worked
 pub mod LebLaws
 pub mod SlebLaws
 pub mod Forms
+pub mod FormFaults
 pub mod TextLaws
 pub mod ItemLaws

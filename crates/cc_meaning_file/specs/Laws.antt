@@ -2,8 +2,8 @@
 use Rattle.std.specs.Prelude.{◌≡◌, ◌≢◌, ◌↔◌, ℕ, ◌+◌, ◌<◌, ◌≤◌, List, [], length, drop, Some, None, Ok, Err, ℤ}
 use Rattle.cc_meaning_file.specs.Leb128.{SpellsUleb, SpellsSleb, uleb_at, sleb_at}
 use Rattle.cc_meaning.specs.declared.fault.TextFault.{TextFault}
-use Rattle.cc_meaning.specs.declared.fault.TextFault.TheVariants.{Memory}
-use Rattle.cc_meaning_file.specs.Mutf8.{SpellsMutf8, front_of, behind_unit, text_of, mutf8_at}
+use Rattle.cc_meaning.specs.declared.fault.TextFault.TheVariants.{CutOff, BadForm, Memory}
+use Rattle.cc_meaning_file.specs.Mutf8.{SpellsMutf8, IsCut, IsNoForm, front_of, behind_unit, text_of, mutf8_at}
 use Rattle.cc_meaning_file.specs.Texts.{SpellsText, text_at}
 
 abbrev pub UlebAgrees : Type 0
@@ -23,6 +23,11 @@ TextAgrees = (file : List ℕ) (at : ℕ) (units : List ℕ) → (text_at file a
 pub record Mutf8Answers : Type 0 where
   pub counted : (bytes : List ℕ) (at count : ℕ) (units : List ℕ) (next : ℕ) → mutf8_at bytes at count ≡ Ok (units, next) → length units ≡ count
   pub faults : (bytes : List ℕ) (at count : ℕ) → mutf8_at bytes at count ≢ Err Memory
+
+-- what stands in front is at fault exactly where it is a form that is cut, or no form
+pub record FrontFaults : Type 0 where
+  pub cut : (at : ℕ) (bytes : List ℕ) → (front_of at bytes ≡ Err CutOff) ↔ IsCut bytes
+  pub bad : (at : ℕ) (bytes : List ℕ) → (front_of at bytes ≡ Err (BadForm at)) ↔ IsNoForm bytes
 
 -- a text is read form by form, by what stands in front
 pub record TextSteps : Type 0 where

@@ -1,4 +1,4 @@
-ghost use Rattle.cc_meaning_file.specs.Laws.{UlebAgrees, SlebAgrees, Mutf8Agrees, Mutf8Answers, TextSteps, TextAgrees, OneUleb, OneText};
+ghost use Rattle.cc_meaning_file.specs.Laws.{UlebAgrees, SlebAgrees, Mutf8Agrees, Mutf8Answers, FrontFaults, TextSteps, TextAgrees, OneUleb, OneText};
 
 /// A number in ULEB128 is read exactly where it is spelled.
 pub fn uleb_agrees()
@@ -23,6 +23,11 @@ pub fn mutf8_answers()
 /// A text item is read exactly where it is spelled.
 pub fn text_agrees()
     ensures { TextAgrees }
+{}
+
+/// What stands in front of a text is at fault exactly where it is a form that is cut, or no form.
+pub fn front_faults()
+    ensures { FrontFaults }
 {}
 
 /// A text in MUTF-8 is read form by form.
