@@ -51,7 +51,7 @@ three_is_cut at a (b ∷ c ∷ cs) h k e =
     let same : CutOff ≡ BadForm at = forms.if-fault (begins_three a b && goes_on c) (Some (u, 3)) (BadForm at) CutOff e in
     absurd cc
 
-front_is_cut : (at : ℕ) (bytes : List ℕ) → front_of at bytes ≡ Err CutOff → IsCut bytes
+pub front_is_cut : (at : ℕ) (bytes : List ℕ) → front_of at bytes ≡ Err CutOff → IsCut bytes
 front_is_cut at [] e = cut_from [] 1 1 [] (omega arith) (forms.unit_form-one 1 (omega arith) (omega arith))
 front_is_cut at (a ∷ bs) e =
     elim (cases_lt a 128) [
@@ -114,7 +114,7 @@ cut_three at u next (a ∷ b ∷ []) others h k e =
     forms.front_of-three at a (b ∷ []) (omega arith) (omega arith) ∙ three_begun at a b begins
 cut_three at u next (a ∷ b ∷ c ∷ cs) others h k e = absurd (omega (arith, ap length e, length-append cs (next ∷ others)))
 
-cut_is_front : (at : ℕ) (bytes : List ℕ) → IsCut bytes → front_of at bytes ≡ Err CutOff
+pub cut_is_front : (at : ℕ) (bytes : List ℕ) → IsCut bytes → front_of at bytes ≡ Err CutOff
 cut_is_front at bytes c =
     elim (cases_lt c.unit 2048) [
       | inl low ↦ elim (cases_lt c.unit 128) [
@@ -127,14 +127,14 @@ cut_is_front at bytes c =
       | inr high ↦ cut_three at c.unit c.next bytes c.others high c.small (sym (forms.unit_form-three c.unit high) ∙ c.form)
     ]
 
-bad_is_none : (at : ℕ) (bytes : List ℕ) → front_of at bytes ≡ Err (BadForm at) → IsNoForm bytes
+pub bad_is_none : (at : ℕ) (bytes : List ℕ) → front_of at bytes ≡ Err (BadForm at) → IsNoForm bytes
 bad_is_none at bytes e = record {
   whole = λ u rest h same. let found = ap (front_of at) same ∙ forms.front_of-unit at u rest h in absurd cc;
   cut = λ c. let found = cut_is_front at bytes c in absurd cc;
   end = λ rest same. let found = ap (front_of at) same ∙ forms.front_of-end at rest in absurd cc;
 }
 
-none_is_bad : (at : ℕ) (bytes : List ℕ) → IsNoForm bytes → front_of at bytes ≡ Err (BadForm at)
+pub none_is_bad : (at : ℕ) (bytes : List ℕ) → IsNoForm bytes → front_of at bytes ≡ Err (BadForm at)
 unfolding forms.Found
 none_is_bad at bytes n = by_front (front_of at bytes) refl
   where

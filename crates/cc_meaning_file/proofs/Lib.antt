@@ -4,4 +4,5 @@ pub mod SlebLaws
 pub mod Forms
 pub mod FormFaults
 pub mod TextLaws
+pub mod TextFaults
 pub mod ItemLaws

@@ -11,22 +11,22 @@ use Rattle.cc_meaning_file.specs.Mutf8.{SpellsMutf8, Front, unit_form, mutf8_byt
 use Rattle.cc_meaning_file.specs.Laws.{Mutf8Agrees, Mutf8Answers, TextSteps}
 use Rattle.cc_meaning_file.proofs.Forms.{IsForm, Found, front_of-sound, front_of-unit, front_of-end, front-fault}
 
-abbrev Small : List ℕ → Type 0
+abbrev pub Small : List ℕ → Type 0
 Small units = All (λ u. u < 65536) units
 
-abbrev Text : Type 0
+abbrev pub Text : Type 0
 Text = Result (List ℕ × ℕ) TextFault
 
 -- one step, by what stands in front
-within-Err : (steps at : ℕ) (bytes : List ℕ) (fault : TextFault) → front_of at bytes ≡ Err fault → text_within (suc steps) at bytes ≡ Err fault
+pub within-Err : (steps at : ℕ) (bytes : List ℕ) (fault : TextFault) → front_of at bytes ≡ Err fault → text_within (suc steps) at bytes ≡ Err fault
 unfolding text_within
 within-Err steps at bytes fault h = rw (h, text_within)
 
-within-None : (steps at : ℕ) (bytes : List ℕ) → front_of at bytes ≡ Ok None → text_within (suc steps) at bytes ≡ Ok ([], at + 1)
+pub within-None : (steps at : ℕ) (bytes : List ℕ) → front_of at bytes ≡ Ok None → text_within (suc steps) at bytes ≡ Ok ([], at + 1)
 unfolding text_within
 within-None steps at bytes h = rw (h, text_within)
 
-within-Some : (steps at : ℕ) (bytes : List ℕ) (u n : ℕ) → front_of at bytes ≡ Ok (Some (u, n)) →
+pub within-Some : (steps at : ℕ) (bytes : List ℕ) (u n : ℕ) → front_of at bytes ≡ Ok (Some (u, n)) →
     text_within (suc steps) at bytes ≡ behind_unit u (text_within steps (at + n) (drop n bytes))
 unfolding text_within
 within-Some steps at bytes u n h = rw (h, text_within)
@@ -36,12 +36,12 @@ unfolding text_within
 within-zero at bytes = refl
 
 -- what stands in front: a fault, the zero byte, or a form
-data Front_is (at : ℕ) (bytes : List ℕ) : Type 0 where
+pub data Front_is (at : ℕ) (bytes : List ℕ) : Type 0 where
   fails : (fault : TextFault) → front_of at bytes ≡ Err fault → Front_is at bytes
   ends : front_of at bytes ≡ Ok None → bytes ≡ 0 ∷ drop 1 bytes → Front_is at bytes
   forms : (u n : ℕ) → front_of at bytes ≡ Ok (Some (u, n)) → IsForm bytes u n → Front_is at bytes
 
-front_cases : (at : ℕ) (bytes : List ℕ) → Front_is at bytes
+pub front_cases : (at : ℕ) (bytes : List ℕ) → Front_is at bytes
 unfolding Found
 front_cases at bytes = by_front (front_of at bytes) refl
   where
@@ -54,7 +54,7 @@ front_cases at bytes = by_front (front_of at bytes) refl
     by_front (Ok f) e = by_sound f e (front_of-sound at bytes f e)
 
 -- each form has a byte
-unit_form-some : (u : ℕ) → 0 < length (unit_form u)
+pub unit_form-some : (u : ℕ) → 0 < length (unit_form u)
 unfolding unit_form
 unit_form-some u =
     elim (cases_eq u 0) [
@@ -65,15 +65,15 @@ unit_form-some u =
       ]
     ]
 
-mutf8_bytes-nil : mutf8_bytes [] ≡ []
+pub mutf8_bytes-nil : mutf8_bytes [] ≡ []
 unfolding mutf8_bytes
 mutf8_bytes-nil = refl
 
-mutf8_bytes-cons : (u : ℕ) (us : List ℕ) → mutf8_bytes (u ∷ us) ≡ unit_form u ++ mutf8_bytes us
+pub mutf8_bytes-cons : (u : ℕ) (us : List ℕ) → mutf8_bytes (u ∷ us) ≡ unit_form u ++ mutf8_bytes us
 unfolding mutf8_bytes
 mutf8_bytes-cons u us = refl
 
-length-units : (us : List ℕ) → length us ≤ length (mutf8_bytes us)
+pub length-units : (us : List ℕ) → length us ≤ length (mutf8_bytes us)
 length-units [] = omega arith
 length-units (u ∷ us) =
     omega (arith, length-units us, unit_form-some u, ap length (mutf8_bytes-cons u us), length-append (unit_form u) (mutf8_bytes us))
@@ -194,7 +194,7 @@ text_of-Some at bytes u n h =
     within-Some (length bytes) at bytes u n h
     ∙ ap (behind_unit u) (steps_enough (length bytes) (suc (length (drop n bytes))) (at + n) (drop n bytes) shorter (omega arith))
 
-counted-Ok : (count : ℕ) (r : Text) (units : List ℕ) (next : ℕ) → counted count r ≡ Ok (units, next) → r ≡ Ok (units, next)
+pub counted-Ok : (count : ℕ) (r : Text) (units : List ℕ) (next : ℕ) → counted count r ≡ Ok (units, next) → r ≡ Ok (units, next)
 unfolding counted
 counted-Ok count (Err fault) units next h = absurd cc
 counted-Ok count (Ok text) units next h = elim (cases_eq (length text.0) count) [
@@ -242,7 +242,7 @@ mutf8_read bytes at units next s =
 pub mutf8_agrees : Mutf8Agrees
 mutf8_agrees bytes at units next = (mutf8_spelled bytes at units next, mutf8_read bytes at units next)
 
-behind_unit-Err : (u : ℕ) (r : Text) (fault : TextFault) → behind_unit u r ≡ Err fault → r ≡ Err fault
+pub behind_unit-Err : (u : ℕ) (r : Text) (fault : TextFault) → behind_unit u r ≡ Err fault → r ≡ Err fault
 behind_unit-Err u (Ok text) fault h = absurd cc
 behind_unit-Err u (Err other) fault h = cc
 

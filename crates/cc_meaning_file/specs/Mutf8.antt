@@ -25,6 +25,12 @@ pub record SpellsMutf8 (bytes : List ℕ) (at : ℕ) (units : List ℕ) (next : 
   pub stands : Stands bytes at (mutf8_bytes units ++ 0 ∷ [])
   pub end : next ≡ at + length (mutf8_bytes units) + 1
 
+-- the forms of these units of 16 bits stand from `at` to before `place`
+pub record FormsStand (bytes : List ℕ) (at : ℕ) (units : List ℕ) (place : ℕ) : Type 0 where
+  pub small : All (λ u. u < 65536) units
+  pub stands : Stands bytes at (mutf8_bytes units)
+  pub end : place ≡ at + length (mutf8_bytes units)
+
 -- these bytes are all that stands of a form: at least one more byte belongs to it
 pub record IsCut (bytes : List ℕ) : Type 0 where
   pub unit : ℕ

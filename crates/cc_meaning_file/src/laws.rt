@@ -1,4 +1,4 @@
-ghost use Rattle.cc_meaning_file.specs.Laws.{UlebAgrees, SlebAgrees, Mutf8Agrees, Mutf8Answers, FrontFaults, TextSteps, TextAgrees, OneUleb, OneText};
+ghost use Rattle.cc_meaning_file.specs.Laws.{UlebAgrees, SlebAgrees, Mutf8Agrees, Mutf8Answers, FrontFaults, TextFaults, TextSteps, TextAgrees, OneUleb, OneText};
 
 /// A number in ULEB128 is read exactly where it is spelled.
 pub fn uleb_agrees()
@@ -28,6 +28,11 @@ pub fn text_agrees()
 /// What stands in front of a text is at fault exactly where it is a form that is cut, or no form.
 pub fn front_faults()
     ensures { FrontFaults }
+{}
+
+/// Each fault of a text comes exactly where its forms say so.
+pub fn text_faults()
+    ensures { TextFaults }
 {}
 
 /// A text in MUTF-8 is read form by form.
