@@ -1,50 +1,50 @@
 -- Each form in MUTF-8 is read as its unit, and what is read as a unit is its form.
-use Rattle.std.proofs.Common.{◌≡◌, ◌≢◌, ℕ, zero, suc, ◌+◌, ◌-◌, ◌*◌, ◌/◌, ◌%◌, ◌<◌, ◌≤◌, ◌⊎◌, Bool, true, false, cond, List, [], ◌∷◌, ◌++◌, length, take, drop, Option, Some, None, Result, Ok, Err, refl, sym, ap, ◌∙◌, subst, inl, inr, arith}
-use Rattle.std.specs.Prelude.{nat_lt, nat_le, ◌==◌, ◌&&◌, ◌||◌, if◌then◌else◌}
+use Rattle.std.proofs.Common.{◌≡◌, ℕ, ◌+◌, ◌-◌, ◌*◌, ◌/◌, ◌%◌, ◌<◌, ◌≤◌, ◌⊎◌, Bool, true, false, List, [], ◌∷◌, ◌++◌, length, drop, Some, None, Result, Ok, Err, refl, sym, ap, ◌∙◌, subst, inl, inr, arith}
+use Rattle.std.specs.Prelude.{nat_le, ◌==◌, ◌&&◌, ◌||◌, if◌then◌else◌}
 use Rattle.std.proofs.lemmas.Bool.{cases_lt, cases_eq}
 use Rattle.std.proofs.lemmas.Bool.Decides.{nat_tests}
 use Rattle.cc_meaning.specs.declared.fault.TextFault.{TextFault}
-use Rattle.cc_meaning.specs.declared.fault.TextFault.TheVariants.{CutOff, BadForm, BadCount}
+use Rattle.cc_meaning.specs.declared.fault.TextFault.TheVariants.{CutOff, BadForm}
 use Rattle.cc_meaning_file.specs.Mutf8.{Front, two_bytes, three_bytes, unit_form, goes_on, begins_three, front_of_two, front_of_three, front_of}
 
-unit_form-one : (u : ℕ) → 0 < u → u < 128 → unit_form u ≡ u ∷ []
+pub unit_form-one : (u : ℕ) → 0 < u → u < 128 → unit_form u ≡ u ∷ []
 unfolding unit_form
 unit_form-one u h k = grind (arith, nat_tests)
 
-unit_form-two : (u : ℕ) → (u ≡ 0) ⊎ (128 ≤ u) → u < 2048 → unit_form u ≡ two_bytes u
+pub unit_form-two : (u : ℕ) → (u ≡ 0) ⊎ (128 ≤ u) → u < 2048 → unit_form u ≡ two_bytes u
 unfolding unit_form
 unit_form-two u h k = grind (arith, nat_tests)
 
-unit_form-three : (u : ℕ) → 2048 ≤ u → unit_form u ≡ three_bytes u
+pub unit_form-three : (u : ℕ) → 2048 ≤ u → unit_form u ≡ three_bytes u
 unfolding unit_form
 unit_form-three u h = grind (arith, nat_tests)
 
 -- what stands in front, by the first byte
-front_of-zero : (at a : ℕ) (bs : List ℕ) → a ≡ 0 → front_of at (a ∷ bs) ≡ Ok None
+pub front_of-zero : (at a : ℕ) (bs : List ℕ) → a ≡ 0 → front_of at (a ∷ bs) ≡ Ok None
 unfolding front_of
 front_of-zero at a bs h = grind (arith, nat_tests)
 
-front_of-one : (at a : ℕ) (bs : List ℕ) → 0 < a → a < 128 → front_of at (a ∷ bs) ≡ Ok (Some (a, 1))
+pub front_of-one : (at a : ℕ) (bs : List ℕ) → 0 < a → a < 128 → front_of at (a ∷ bs) ≡ Ok (Some (a, 1))
 unfolding front_of
 front_of-one at a bs h k = grind (arith, nat_tests)
 
-front_of-stray : (at a : ℕ) (bs : List ℕ) → 128 ≤ a → a < 192 → front_of at (a ∷ bs) ≡ Err (BadForm at)
+pub front_of-stray : (at a : ℕ) (bs : List ℕ) → 128 ≤ a → a < 192 → front_of at (a ∷ bs) ≡ Err (BadForm at)
 unfolding front_of
 front_of-stray at a bs h k = grind (arith, nat_tests)
 
-front_of-two : (at a : ℕ) (bs : List ℕ) → 192 ≤ a → a < 224 → front_of at (a ∷ bs) ≡ front_of_two at a bs
+pub front_of-two : (at a : ℕ) (bs : List ℕ) → 192 ≤ a → a < 224 → front_of at (a ∷ bs) ≡ front_of_two at a bs
 unfolding front_of
 front_of-two at a bs h k = grind (arith, nat_tests)
 
-front_of-three : (at a : ℕ) (bs : List ℕ) → 224 ≤ a → a < 240 → front_of at (a ∷ bs) ≡ front_of_three at a bs
+pub front_of-three : (at a : ℕ) (bs : List ℕ) → 224 ≤ a → a < 240 → front_of at (a ∷ bs) ≡ front_of_three at a bs
 unfolding front_of
 front_of-three at a bs h k = grind (arith, nat_tests)
 
-front_of-high : (at a : ℕ) (bs : List ℕ) → 240 ≤ a → front_of at (a ∷ bs) ≡ Err (BadForm at)
+pub front_of-high : (at a : ℕ) (bs : List ℕ) → 240 ≤ a → front_of at (a ∷ bs) ≡ Err (BadForm at)
 unfolding front_of
 front_of-high at a bs h = grind (arith, nat_tests)
 
-front_of-nil : (at : ℕ) → front_of at [] ≡ Err CutOff
+pub front_of-nil : (at : ℕ) → front_of at [] ≡ Err CutOff
 unfolding front_of
 front_of-nil at = refl
 
@@ -57,7 +57,7 @@ if-Err : {A : Type 0} (t : Bool) (d e : TextFault) (w : A) → (if t then Err d 
 if-Err true d e w h = cc
 if-Err false d e w h = cc
 
-goes_on-true : (b : ℕ) → 128 ≤ b → b < 192 → goes_on b ≡ true
+pub goes_on-true : (b : ℕ) → 128 ≤ b → b < 192 → goes_on b ≡ true
 goes_on-true b h k = grind (arith, nat_tests)
 
 goes_on-is : (b : ℕ) → goes_on b ≡ true → (128 ≤ b) × (b < 192)
@@ -84,18 +84,18 @@ pub record IsForm (bytes : List ℕ) (u n : ℕ) : Type 0 where
 
 form_from : (bytes part rest : List ℕ) (u n : ℕ) → unit_form u ≡ part → length part ≡ n → bytes ≡ part ++ rest → drop n bytes ≡ rest → u < 65536 → IsForm bytes u n
 form_from bytes part rest u n e w b d h = record {
-    size = sym w ∙ ap length (sym e);
-    form = b ∙ ap (λ p. p ++ rest) (sym e) ∙ ap (λ r. unit_form u ++ r) (sym d);
-    small = h
-  }
+  size = sym w ∙ ap length (sym e);
+  form = b ∙ ap (λ p. p ++ rest) (sym e) ∙ ap (λ r. unit_form u ++ r) (sym d);
+  small = h;
+}
 
-two_bytes_are : (a b u : ℕ) → 192 ≤ a → 128 ≤ b → b < 192 → u ≡ (a - 192) * 64 + (b - 128) → two_bytes u ≡ a ∷ b ∷ []
+pub two_bytes_are : (a b u : ℕ) → 192 ≤ a → 128 ≤ b → b < 192 → u ≡ (a - 192) * 64 + (b - 128) → two_bytes u ≡ a ∷ b ∷ []
 two_bytes_are a b u h k l e =
     let first : 192 + u / 64 ≡ a = omega arith in
     let second : 128 + u % 64 ≡ b = omega arith in
     cc
 
-three_bytes_are : (a b c u : ℕ) → 224 ≤ a → 128 ≤ b → b < 192 → 128 ≤ c → c < 192 → u ≡ (a - 224) * 4096 + (b - 128) * 64 + (c - 128) → three_bytes u ≡ a ∷ b ∷ c ∷ []
+pub three_bytes_are : (a b c u : ℕ) → 224 ≤ a → 128 ≤ b → b < 192 → 128 ≤ c → c < 192 → u ≡ (a - 224) * 4096 + (b - 128) * 64 + (c - 128) → three_bytes u ≡ a ∷ b ∷ c ∷ []
 three_bytes_are a b c u h k l m n e =
     let first : 224 + u / 4096 ≡ a = omega arith in
     let second : 128 + u / 64 % 64 ≡ b = omega arith in
@@ -124,7 +124,7 @@ front_of_two-sound at a (b ∷ bs) f h k e =
     nought_or_large u h = elim (cases_eq u 0) [ inl e ↦ inl e | inr n ↦ inr (grind (arith, nat_tests)) ]
 
 -- the forms of three bytes
-begins_three-is : (a b : ℕ) → begins_three a b ≡ true → (128 ≤ b) × (b < 192) × (32 ≤ (a - 224) * 64 + (b - 128))
+pub begins_three-is : (a b : ℕ) → begins_three a b ≡ true → (128 ≤ b) × (b < 192) × (32 ≤ (a - 224) * 64 + (b - 128))
 begins_three-is a b h =
     let parts = and-true (goes_on b) (nat_le 32 ((a - 224) * 64 + (b - 128))) h in
     let on = goes_on-is b parts.0 in
@@ -166,17 +166,17 @@ unfolding Found
 front_of-sound at [] f e = absurd (cc (front_of-nil at))
 front_of-sound at (a ∷ bs) f e =
     elim (cases_lt a 128) [
-      inl low ↦ elim (cases_eq a 0) [
-        inl nought ↦ let at_end = front_of-zero at a bs nought in inl (cc, ap (λ x. x ∷ bs) nought)
-      | inr some ↦ let one = front_of-one at a bs (omega arith) low in inr (a, 1, cc, found_one a bs (omega arith) low)
+      | inl low ↦ elim (cases_eq a 0) [
+        | inl nought ↦ let at_end = front_of-zero at a bs nought in inl (cc, ap (λ x. x ∷ bs) nought)
+        | inr some ↦ let one = front_of-one at a bs (omega arith) low in inr (a, 1, cc, found_one a bs (omega arith) low)
       ]
-    | inr above ↦ elim (cases_lt a 192) [
-        inl stray ↦ absurd (cc (front_of-stray at a bs above stray))
-      | inr above192 ↦ elim (cases_lt a 224) [
-          inl two ↦ inr (front_of_two-sound at a bs f above192 two (sym (front_of-two at a bs above192 two) ∙ e))
-        | inr above224 ↦ elim (cases_lt a 240) [
-            inl three ↦ inr (front_of_three-sound at a bs f above224 three (sym (front_of-three at a bs above224 three) ∙ e))
-          | inr high ↦ absurd (cc (front_of-high at a bs high))
+      | inr above ↦ elim (cases_lt a 192) [
+        | inl stray ↦ absurd (cc (front_of-stray at a bs above stray))
+        | inr above192 ↦ elim (cases_lt a 224) [
+          | inl two ↦ inr (front_of_two-sound at a bs f above192 two (sym (front_of-two at a bs above192 two) ∙ e))
+          | inr above224 ↦ elim (cases_lt a 240) [
+            | inl three ↦ inr (front_of_three-sound at a bs f above224 three (sym (front_of-three at a bs above224 three) ∙ e))
+            | inr high ↦ absurd (cc (front_of-high at a bs high))
           ]
         ]
       ]
@@ -187,21 +187,21 @@ pub front_of-unit : (at u : ℕ) (rest : List ℕ) → u < 65536 → front_of at
 front_of-unit at u rest h =
     let F : List ℕ → Type 0 = λ part. front_of at (part ++ rest) ≡ Ok (Some (u, length part)) in
     elim (cases_lt u 2048) [
-      inl low ↦ elim (cases_lt u 128) [
-        inl small ↦ elim (cases_eq u 0) [
-          inl nought ↦ subst F (sym (unit_form-two u (inl nought) low)) (front_of-two at (192 + u / 64) ((128 + u % 64) ∷ rest) (omega arith) (omega arith) ∙ front_of_two-unit at u rest (inl nought) low)
-        | inr some ↦ subst F (sym (unit_form-one u (omega arith) small)) (front_of-one at u rest (omega arith) small)
+      | inl low ↦ elim (cases_lt u 128) [
+        | inl small ↦ elim (cases_eq u 0) [
+          | inl nought ↦ subst F (sym (unit_form-two u (inl nought) low)) (front_of-two at (192 + u / 64) ((128 + u % 64) ∷ rest) (omega arith) (omega arith) ∙ front_of_two-unit at u rest (inl nought) low)
+          | inr some ↦ subst F (sym (unit_form-one u (omega arith) small)) (front_of-one at u rest (omega arith) small)
         ]
-      | inr large ↦ subst F (sym (unit_form-two u (inr large) low)) (front_of-two at (192 + u / 64) ((128 + u % 64) ∷ rest) (omega arith) (omega arith) ∙ front_of_two-unit at u rest (inr large) low)
+        | inr large ↦ subst F (sym (unit_form-two u (inr large) low)) (front_of-two at (192 + u / 64) ((128 + u % 64) ∷ rest) (omega arith) (omega arith) ∙ front_of_two-unit at u rest (inr large) low)
       ]
-    | inr high ↦ subst F (sym (unit_form-three u high)) (front_of-three at (224 + u / 4096) ((128 + u / 64 % 64) ∷ (128 + u % 64) ∷ rest) (omega arith) (omega arith) ∙ front_of_three-unit at u rest high h)
+      | inr high ↦ subst F (sym (unit_form-three u high)) (front_of-three at (224 + u / 4096) ((128 + u / 64 % 64) ∷ (128 + u % 64) ∷ rest) (omega arith) (omega arith) ∙ front_of_three-unit at u rest high h)
     ]
 
 pub front_of-end : (at : ℕ) (rest : List ℕ) → front_of at (0 ∷ rest) ≡ Ok None
 front_of-end at rest = front_of-zero at 0 rest refl
 
 -- what isn't read fails as cut off or as no form
-if-fault : {A : Type 0} (t : Bool) (v : A) (d e : TextFault) → (if t then Ok v else Err d) ≡ Err e → e ≡ d
+pub if-fault : {A : Type 0} (t : Bool) (v : A) (d e : TextFault) → (if t then Ok v else Err d) ≡ Err e → e ≡ d
 if-fault true v d e h = absurd cc
 if-fault false v d e h = cc
 
@@ -233,17 +233,17 @@ pub front-fault : (at : ℕ) (bytes : List ℕ) (fault : TextFault) → front_of
 front-fault at [] fault e = let cut = front_of-nil at in inl cc
 front-fault at (a ∷ bs) fault e =
     elim (cases_lt a 128) [
-      inl low ↦ elim (cases_eq a 0) [
-        inl nought ↦ absurd (cc (front_of-zero at a bs nought))
-      | inr some ↦ absurd (cc (front_of-one at a bs (omega arith) low))
+      | inl low ↦ elim (cases_eq a 0) [
+        | inl nought ↦ absurd (cc (front_of-zero at a bs nought))
+        | inr some ↦ absurd (cc (front_of-one at a bs (omega arith) low))
       ]
-    | inr above ↦ elim (cases_lt a 192) [
-        inl stray ↦ let bad = front_of-stray at a bs above stray in inr cc
-      | inr above192 ↦ elim (cases_lt a 224) [
-          inl two ↦ two-fault at a bs fault (sym (front_of-two at a bs above192 two) ∙ e)
-        | inr above224 ↦ elim (cases_lt a 240) [
-            inl three ↦ three-fault at a bs fault (sym (front_of-three at a bs above224 three) ∙ e)
-          | inr high ↦ let bad = front_of-high at a bs high in inr cc
+      | inr above ↦ elim (cases_lt a 192) [
+        | inl stray ↦ let bad = front_of-stray at a bs above stray in inr cc
+        | inr above192 ↦ elim (cases_lt a 224) [
+          | inl two ↦ two-fault at a bs fault (sym (front_of-two at a bs above192 two) ∙ e)
+          | inr above224 ↦ elim (cases_lt a 240) [
+            | inl three ↦ three-fault at a bs fault (sym (front_of-three at a bs above224 three) ∙ e)
+            | inr high ↦ let bad = front_of-high at a bs high in inr cc
           ]
         ]
       ]

@@ -1,10 +1,10 @@
 -- A text item is read exactly where it is spelled.
-use Rattle.std.proofs.Common.{◌≡◌, ℕ, List, length, drop, Option, Some, None, Result, Ok, Err, refl, sym, ap, ◌∙◌, subst}
+use Rattle.std.proofs.Common.{◌≡◌, ℕ, List, length, Option, Some, Result, Ok, Err, refl, sym, ap, ◌∙◌}
 use Rattle.cc_meaning.specs.declared.fault.LebFault.{LebFault}
 use Rattle.cc_meaning.specs.declared.fault.TextFault.{TextFault}
 use Rattle.cc_meaning.specs.declared.fault.LebFault.TheVariants as leb
-use Rattle.cc_meaning_file.specs.Leb128.{SpellsUleb, uleb_at}
-use Rattle.cc_meaning_file.specs.Mutf8.{SpellsMutf8, text_of, mutf8_at}
+use Rattle.cc_meaning_file.specs.Leb128.{uleb_at}
+use Rattle.cc_meaning_file.specs.Mutf8.{mutf8_at}
 use Rattle.cc_meaning_file.specs.Texts.{SpellsText, units_of, text_counted, text_item_at, text_at}
 use Rattle.cc_meaning_file.specs.Laws.{TextAgrees, OneText}
 use Rattle.cc_meaning_file.proofs.LebLaws.{uleb_agrees}
@@ -30,7 +30,7 @@ text_spelled file at units h =
       place = head.1;
       next = read.0;
       count = (uleb_agrees file at (length units) head.1).0 (head.2 ∙ ap (λ n. Ok (n, head.1)) (sym count));
-      text = (mutf8_agrees file head.1 units read.0).0 (ap (mutf8_at file head.1) count ∙ head.3)
+      text = (mutf8_agrees file head.1 units read.0).0 (ap (mutf8_at file head.1) count ∙ head.3);
     }
 
 text_read : (file : List ℕ) (at : ℕ) (units : List ℕ) → SpellsText file at units → text_at file at ≡ Some units

@@ -1,9 +1,9 @@
 -- A number in LEB128 is read exactly where it is spelled.
-use Rattle.std.proofs.Common.{◌≡◌, ℕ, zero, suc, ◌+◌, ◌-◌, ◌<◌, ◌≤◌, ◌^◌, ◌⊎◌, Bool, true, false, cond, List, [], ◌∷◌, length, take, drop, Result, Ok, Err, ℤ, refl, sym, ap, ◌∙◌, subst, inl, inr, arith}
-use Rattle.std.specs.Prelude.{nat_lt, slice_range}
+use Rattle.std.proofs.Common.{◌≡◌, ℕ, zero, suc, ◌+◌, ◌-◌, ◌<◌, ◌≤◌, ◌^◌, ◌⊎◌, List, [], ◌∷◌, length, take, drop, Result, Ok, Err, refl, sym, ap, ◌∙◌, subst, inl, inr, arith}
+use Rattle.std.specs.Prelude.{slice_range}
 use Rattle.std.proofs.lemmas.Bool.{cases_lt}
 use Rattle.std.proofs.lemmas.Bool.Decides.{nat_tests}
-use Rattle.std.proofs.lemmas.List.{length-take-le, length-take, length-drop}
+use Rattle.std.proofs.lemmas.List.{length-take, length-drop}
 use Rattle.cc_meaning.specs.declared.fault.LebFault.{LebFault}
 use Rattle.cc_meaning.specs.declared.fault.LebFault.TheVariants.{CutOff, TooBig}
 use Rattle.cc_meaning_file.specs.Leb128.{IsLeb, leb_value, LebStands, SpellsUleb, one_more, leb_size, uleb_judged, uleb_sized, uleb_at}
@@ -59,10 +59,10 @@ leb_size-sound zero bs n h = absurd (cc (leb_size-zero bs))
 leb_size-sound (suc room) [] n h = absurd (cc (leb_size-nil room))
 leb_size-sound (suc room) (b ∷ bs) n h =
     elim (cases_lt b 128) [
-      inl small ↦ let first = leb_size-last room b bs small in sized_last room b bs n small (cc)
-    | inr large ↦
-      let inner = one_more-Ok (leb_size room bs) n (sym (leb_size-more room b bs large) ∙ h) in
-      sized_more room b bs inner.0 n large inner.2 (leb_size-sound room bs inner.0 inner.1)
+      | inl small ↦ let first = leb_size-last room b bs small in sized_last room b bs n small (cc)
+      | inr large ↦
+          let inner = one_more-Ok (leb_size room bs) n (sym (leb_size-more room b bs large) ∙ h) in
+          sized_more room b bs inner.0 n large inner.2 (leb_size-sound room bs inner.0 inner.1)
     ]
 
 leb_size-complete : (room : ℕ) (bs : List ℕ) (n : ℕ) → n ≤ room → n ≤ length bs → IsLeb (take n bs) → leb_size room bs ≡ Ok n
@@ -71,20 +71,20 @@ leb_size-complete zero bs (suc n) h k f = absurd (omega arith)
 leb_size-complete (suc room) [] (suc n) h k f = absurd (omega arith)
 leb_size-complete (suc room) (b ∷ bs) (suc n) h k f =
     elim (IsLeb-split b (take n bs) f) [
-      inl last ↦
-      let none : n ≡ 0 = omega (arith, length-take n bs, ap length last.1) in
-      leb_size-last room b bs last.0 ∙ ap Ok (sym (ap suc none))
-    | inr more ↦
-      leb_size-more room b bs more.0 ∙ ap one_more (leb_size-complete room bs n (omega arith) (omega arith) more.1) ∙ ap Ok (omega arith)
+      | inl last ↦
+          let none : n ≡ 0 = omega (arith, length-take n bs, ap length last.1) in
+          leb_size-last room b bs last.0 ∙ ap Ok (sym (ap suc none))
+      | inr more ↦
+          leb_size-more room b bs more.0 ∙ ap one_more (leb_size-complete room bs n (omega arith) (omega arith) more.1) ∙ ap Ok (omega arith)
     ]
 
 uleb_judged-Ok : (v place n next : ℕ) → uleb_judged v place ≡ Ok (n, next) → (n ≡ v) × (next ≡ place) × (v < 2 ^ 32)
 unfolding uleb_judged
 uleb_judged-Ok v place n next h =
     elim (cases_lt v (2 ^ 32)) [
-      inl small ↦ let e : uleb_judged v place ≡ Ok (v, place) = grind (arith, nat_tests) in
-      let same : (n, next) ≡ (v, place) = cc in (ap (λ (p : ℕ × ℕ). p.0) same, ap (λ (p : ℕ × ℕ). p.1) same, small)
-    | inr large ↦ let e : uleb_judged v place ≡ Err TooBig = grind (arith, nat_tests) in absurd cc
+      | inl small ↦ let e : uleb_judged v place ≡ Ok (v, place) = grind (arith, nat_tests) in
+          let same : (n, next) ≡ (v, place) = cc in (ap (λ (p : ℕ × ℕ). p.0) same, ap (λ (p : ℕ × ℕ). p.1) same, small)
+      | inr large ↦ let e : uleb_judged v place ≡ Err TooBig = grind (arith, nat_tests) in absurd cc
     ]
 
 uleb_judged-fits : (v place : ℕ) → v < 2 ^ 32 → uleb_judged v place ≡ Ok (v, place)

@@ -2,5 +2,7 @@ mod Worked
 pub mod LebLaws
 pub mod SlebLaws
 pub mod Forms
+pub mod FormFaults
 pub mod TextLaws
+pub mod TextFaults
 pub mod ItemLaws

@@ -1,10 +1,9 @@
 -- A signed number in LEB128 is read exactly where it is spelled.
-use Rattle.std.proofs.Common.{◌≡◌, ℕ, ◌+◌, ◌-◌, ◌<◌, ◌≤◌, ◌^◌, ◌⊎◌, Bool, true, false, cond, List, length, take, drop, Result, Ok, Err, ℤ, pos, neg_ℤ, refl, sym, ap, ◌∙◌, subst, inl, inr, arith}
-use Rattle.std.specs.Prelude.{slice_range}
+use Rattle.std.proofs.Common.{◌≡◌, ℕ, ◌+◌, ◌-◌, Bool, true, false, cond, List, take, drop, Result, Ok, Err, ℤ, refl, sym, ap, ◌∙◌, subst, arith}
 use Rattle.std.proofs.lemmas.Int.{ints}
 use Rattle.cc_meaning.specs.declared.fault.LebFault.{LebFault}
-use Rattle.cc_meaning.specs.declared.fault.LebFault.TheVariants.{CutOff, TooBig}
-use Rattle.cc_meaning_file.specs.Leb128.{signed_leb_value, LebStands, FitsI32, SpellsSleb, leb_size, fits_i32, sleb_judged, sleb_sized, sleb_at}
+use Rattle.cc_meaning.specs.declared.fault.LebFault.TheVariants.{TooBig}
+use Rattle.cc_meaning_file.specs.Leb128.{signed_leb_value, FitsI32, SpellsSleb, leb_size, fits_i32, sleb_judged, sleb_sized, sleb_at}
 use Rattle.cc_meaning_file.specs.Laws.{SlebAgrees}
 use Rattle.cc_meaning_file.proofs.LebLaws.{stands_from_size, size_from_stands}
 
@@ -22,8 +21,8 @@ sleb_judged-Ok v place n next h = by_test (fits_i32 v) refl h
   where
     by_test : (t : Bool) → fits_i32 v ≡ t → cond {A = Result (ℤ × ℕ) LebFault} t (Ok (v, place)) (Err TooBig) ≡ Ok (n, next) → (n ≡ v) × (next ≡ place) × FitsI32 v
     by_test true e k =
-      let same : (v, place) ≡ (n, next) = cc in
-      (sym (ap (λ (p : ℤ × ℕ). p.0) same), sym (ap (λ (p : ℤ × ℕ). p.1) same), fits_i32-is v e)
+        let same : (v, place) ≡ (n, next) = cc in
+        (sym (ap (λ (p : ℤ × ℕ). p.0) same), sym (ap (λ (p : ℤ × ℕ). p.1) same), fits_i32-is v e)
     by_test false e k = absurd cc
 
 sleb_judged-fits : (v : ℤ) (place : ℕ) → FitsI32 v → sleb_judged v place ≡ Ok (v, place)

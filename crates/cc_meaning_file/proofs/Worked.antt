@@ -1,10 +1,9 @@
 -- Worked values of the definitions.
-use Rattle.std.proofs.Common.{◌≡◌, ℕ, List, [], ◌∷◌, Ok, Err, pos, neg_ℤ, refl}
+use Rattle.std.proofs.Common.{◌≡◌, [], ◌∷◌, Ok, Err, pos, neg_ℤ, refl}
 use Rattle.cc_meaning.specs.declared.fault.LebFault.TheVariants as leb
 use Rattle.cc_meaning.specs.declared.fault.TextFault.TheVariants as text
-use Rattle.cc_meaning_file.specs.Numbers.{u16_at, u32_at}
 use Rattle.cc_meaning_file.specs.Leb128.{leb_size, leb_value, uleb_judged, uleb_sized, uleb_at, signed_group, signed_leb_value, fits_i32, sleb_judged, sleb_sized, sleb_at}
-use Rattle.cc_meaning_file.specs.Mutf8.{unit_form, mutf8_bytes, front_of_two, front_of_three, front_of, text_within, text_of, counted, mutf8_at}
+use Rattle.cc_meaning_file.specs.Mutf8.{front_of_two, front_of_three, front_of, text_within, text_of, counted, mutf8_at}
 use Rattle.cc_meaning_file.specs.Adler32.{adler_sums, adler32_of}
 
 in_three_bytes : uleb_at (229 ∷ 142 ∷ 38 ∷ []) 0 ≡ Ok (624485, 3)

@@ -1,9 +1,9 @@
 -- The laws of what bytes spell: each function gives what the relation says, and nothing else is spelled.
-use Rattle.std.specs.Prelude.{◌≡◌, ◌≢◌, ◌↔◌, ℕ, ◌+◌, ◌<◌, ◌≤◌, List, [], length, drop, Option, Some, None, Result, Ok, Err, ℤ}
+use Rattle.std.specs.Prelude.{◌≡◌, ◌≢◌, ◌↔◌, ℕ, ◌+◌, ◌<◌, ◌≤◌, List, [], length, drop, Some, None, Ok, Err, ℤ}
 use Rattle.cc_meaning_file.specs.Leb128.{SpellsUleb, SpellsSleb, uleb_at, sleb_at}
 use Rattle.cc_meaning.specs.declared.fault.TextFault.{TextFault}
-use Rattle.cc_meaning.specs.declared.fault.TextFault.TheVariants.{Memory}
-use Rattle.cc_meaning_file.specs.Mutf8.{SpellsMutf8, front_of, behind_unit, text_of, mutf8_at}
+use Rattle.cc_meaning.specs.declared.fault.TextFault.TheVariants.{CutOff, BadForm, BadCount, Memory}
+use Rattle.cc_meaning_file.specs.Mutf8.{SpellsMutf8, FormsStand, IsCut, IsNoForm, front_of, behind_unit, text_of, mutf8_at}
 use Rattle.cc_meaning_file.specs.Texts.{SpellsText, text_at}
 
 abbrev pub UlebAgrees : Type 0
@@ -23,6 +23,21 @@ TextAgrees = (file : List ℕ) (at : ℕ) (units : List ℕ) → (text_at file a
 pub record Mutf8Answers : Type 0 where
   pub counted : (bytes : List ℕ) (at count : ℕ) (units : List ℕ) (next : ℕ) → mutf8_at bytes at count ≡ Ok (units, next) → length units ≡ count
   pub faults : (bytes : List ℕ) (at count : ℕ) → mutf8_at bytes at count ≢ Err Memory
+
+-- what stands in front is at fault exactly where it is a form that is cut, or no form
+pub record FrontFaults : Type 0 where
+  pub cut : (at : ℕ) (bytes : List ℕ) → (front_of at bytes ≡ Err CutOff) ↔ IsCut bytes
+  pub bad : (at : ℕ) (bytes : List ℕ) → (front_of at bytes ≡ Err (BadForm at)) ↔ IsNoForm bytes
+
+-- each fault of a text comes exactly where the forms of some units stand from `at` on, and behind them stands a form that is cut, or no form;
+-- and a wrong count exactly where a text of another number of units stands
+pub record TextFaults : Type 0 where
+  pub cut : (bytes : List ℕ) (at count : ℕ) →
+      (mutf8_at bytes at count ≡ Err CutOff) ↔ ((units : List ℕ) × (place : ℕ) × FormsStand bytes at units place × IsCut (drop place bytes))
+  pub bad : (bytes : List ℕ) (at count place : ℕ) →
+      (mutf8_at bytes at count ≡ Err (BadForm place)) ↔ ((units : List ℕ) × FormsStand bytes at units place × IsNoForm (drop place bytes))
+  pub count : (bytes : List ℕ) (at count : ℕ) →
+      (mutf8_at bytes at count ≡ Err BadCount) ↔ ((units : List ℕ) × (next : ℕ) × SpellsMutf8 bytes at units next × (length units ≢ count))
 
 -- a text is read form by form, by what stands in front
 pub record TextSteps : Type 0 where

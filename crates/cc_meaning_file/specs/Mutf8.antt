@@ -1,5 +1,5 @@
 -- Texts in MUTF-8, as the Dalvik Executable format has them: each unit of 16 bits in a form of one to three bytes, and a zero byte at the end.
-use Rattle.std.specs.Prelude.{◌≡◌, ℕ, zero, suc, ◌+◌, ◌-◌, ◌*◌, ◌/◌, ◌%◌, ◌<◌, Bool, ◌&&◌, ◌||◌, if◌then◌else◌, nat_lt, nat_le, ◌==◌, List, [], ◌∷◌, ◌++◌, length, drop, All, Option, Some, None, Result, Ok, Err}
+use Rattle.std.specs.Prelude.{◌≡◌, ◌≢◌, ℕ, zero, suc, ◌+◌, ◌-◌, ◌*◌, ◌/◌, ◌%◌, ◌<◌, Bool, ◌&&◌, ◌||◌, if◌then◌else◌, nat_lt, nat_le, ◌==◌, List, [], ◌∷◌, ◌++◌, length, drop, All, Option, Some, None, Result, Ok, Err}
 use Rattle.cc_meaning.specs.declared.fault.TextFault.{TextFault}
 use Rattle.cc_meaning.specs.declared.fault.TextFault.TheVariants.{CutOff, BadForm, BadCount}
 use Rattle.cc_meaning_file.specs.Numbers.{Stands}
@@ -24,6 +24,26 @@ pub record SpellsMutf8 (bytes : List ℕ) (at : ℕ) (units : List ℕ) (next : 
   pub small : All (λ u. u < 65536) units
   pub stands : Stands bytes at (mutf8_bytes units ++ 0 ∷ [])
   pub end : next ≡ at + length (mutf8_bytes units) + 1
+
+-- the forms of these units of 16 bits stand from `at` to before `place`
+pub record FormsStand (bytes : List ℕ) (at : ℕ) (units : List ℕ) (place : ℕ) : Type 0 where
+  pub small : All (λ u. u < 65536) units
+  pub stands : Stands bytes at (mutf8_bytes units)
+  pub end : place ≡ at + length (mutf8_bytes units)
+
+-- these bytes are all that stands of a form: at least one more byte belongs to it
+pub record IsCut (bytes : List ℕ) : Type 0 where
+  pub unit : ℕ
+  pub next : ℕ
+  pub others : List ℕ
+  pub small : unit < 65536
+  pub form : unit_form unit ≡ bytes ++ next ∷ others
+
+-- no form stands in front of these bytes, whole or cut, and no zero byte
+pub record IsNoForm (bytes : List ℕ) : Type 0 where
+  pub whole : (u : ℕ) (rest : List ℕ) → u < 65536 → bytes ≢ unit_form u ++ rest
+  pub cut : ¬ IsCut bytes
+  pub end : (rest : List ℕ) → bytes ≢ 0 ∷ rest
 
 -- What stands in front: the zero byte, or a unit and how many bytes its form takes.
 abbrev pub Front : Type 0
@@ -72,10 +92,10 @@ unfoldable pub text_within : ℕ → ℕ → List ℕ → Result (List ℕ × �
 text_within zero at bytes = Err CutOff
 text_within (suc steps) at bytes =
     elim (front_of at bytes) [
-      Err fault ↦ Err fault
-    | Ok front ↦ elim front [
-        None ↦ Ok ([], at + 1)
-      | Some form ↦ behind_unit form.0 (text_within steps (at + form.1) (drop form.1 bytes))
+      | Err fault ↦ Err fault
+      | Ok front ↦ elim front [
+        | None ↦ Ok ([], at + 1)
+        | Some form ↦ behind_unit form.0 (text_within steps (at + form.1) (drop form.1 bytes))
       ]
     ]
 

@@ -4,5 +4,6 @@
 mod laws;
 
 pub use laws::{
-    mutf8_agrees, mutf8_answers, one_text, one_uleb, sleb_agrees, text_agrees, text_steps, uleb_agrees,
+    front_faults, mutf8_agrees, mutf8_answers, one_text, one_uleb, sleb_agrees, text_agrees,
+    text_faults, text_steps, uleb_agrees,
 };

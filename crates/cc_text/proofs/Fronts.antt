@@ -1,9 +1,8 @@
 -- What stands in front, by its bytes.
-use Rattle.std.proofs.Common.{◌≡◌, ◌≢◌, ℕ, zero, suc, ◌+◌, ◌-◌, ◌*◌, ◌<◌, ◌≤◌, ◌⊎◌, Bool, true, false, List, [], ◌∷◌, length, drop, get_or, Option, Some, None, Result, Ok, Err, refl, sym, ap, ◌∙◌, arith}
+use Rattle.std.proofs.Common.{◌≡◌, ◌≢◌, ℕ, ◌+◌, ◌-◌, ◌*◌, ◌<◌, ◌≤◌, ◌⊎◌, true, false, List, [], ◌∷◌, length, drop, get_or, Some, None, Ok, Err, refl, arith}
 use Rattle.std.proofs.lemmas.Bool.Decides.{nat_tests}
-use Rattle.cc_meaning.specs.declared.fault.TextFault.{TextFault}
 use Rattle.cc_meaning.specs.declared.fault.TextFault.TheVariants.{CutOff, BadForm}
-use Rattle.cc_meaning_file.specs.Mutf8.{Front, front_of, front_of_two, front_of_three, goes_on, begins_three}
+use Rattle.cc_meaning_file.specs.Mutf8.{front_of, front_of_two, front_of_three, goes_on, begins_three}
 
 -- forms of two bytes
 pub two_none : (at a : ℕ) (bs : List ℕ) → length bs ≡ 0 → a ≡ 193 → front_of_two at a bs ≡ Err (BadForm at)
@@ -99,4 +98,3 @@ pub front_high : (at a : ℕ) (bs : List ℕ) → 0 < length bs → get_or bs 0 
 unfolding front_of
 front_high at a [] s f h = absurd (omega arith)
 front_high at a (b ∷ bs) s f h = rw f (grind (arith, nat_tests))
-

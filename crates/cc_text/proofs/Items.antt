@@ -1,7 +1,6 @@
 -- How text items are read.
-use Rattle.std.proofs.Common.{◌≡◌, ◌≢◌, ℕ, List, length, Option, Some, None, Result, Ok, Err, Vec, Global, refl, sym, ap, ◌∙◌}
-use Rattle.std.specs.Prelude.{IfOk, IfErr, IsOk, IsSome}
-use Rattle.cc_meaning.specs.declared.fault.LebFault.{LebFault}
+use Rattle.std.proofs.Common.{◌≡◌, ◌≢◌, ℕ, List, Some, None, Result, Ok, Err, Vec, Global, refl, sym, ap}
+use Rattle.std.specs.Prelude.{IfErr, IsOk, IsSome}
 use Rattle.cc_meaning.specs.declared.fault.LebFault.TheVariants as leb
 use Rattle.cc_meaning.specs.declared.fault.TextFault.{TextFault}
 use Rattle.cc_meaning.specs.declared.fault.TextFault.TheVariants as fault

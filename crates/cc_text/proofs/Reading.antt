@@ -1,11 +1,11 @@
 -- How the readers of texts go on.
-use Rattle.std.proofs.Common.{◌≡◌, ◌≢◌, ℕ, zero, suc, ◌+◌, ◌-◌, ◌<◌, ◌≤◌, List, [], ◌∷◌, ◌++◌, length, take, drop, Option, Some, None, Result, Ok, Err, Vec, Global, refl, sym, ap, ◌∙◌, subst, arith}
-use Rattle.std.specs.Prelude.{IfOk, IfErr, IsOk}
+use Rattle.std.proofs.Common.{◌≡◌, ◌≢◌, ℕ, ◌+◌, ◌<◌, ◌≤◌, List, [], ◌∷◌, ◌++◌, length, drop, Some, None, Result, Ok, Err, Vec, Global, refl, sym, ap, ◌∙◌, arith}
+use Rattle.std.specs.Prelude.{IfOk, IfErr}
 use Rattle.std.proofs.lemmas.List.{append-nil, append_assoc, drop-drop, drop_all, length-drop, length_push}
 use Rattle.std.proofs.lemmas.Bool.Decides.{nat_tests}
 use Rattle.cc_text.proofs.Fronts.{front_none}
 use Rattle.cc_meaning.specs.declared.fault.TextFault.{TextFault}
-use Rattle.cc_meaning.specs.declared.fault.TextFault.TheVariants.{CutOff, BadForm, BadCount, Memory}
+use Rattle.cc_meaning.specs.declared.fault.TextFault.TheVariants.{CutOff, BadCount, Memory}
 use Rattle.cc_meaning_file.specs.Mutf8.{SpellsMutf8, front_of, behind_unit, text_of, counted, mutf8_at}
 use Rattle.cc_meaning_file.specs.Laws.{TextSteps, Mutf8Agrees, Mutf8Answers}
 use Rattle.cc_text.specs.Measured.{measured}
@@ -38,12 +38,12 @@ IsBehind-start at bytes h = record { text = sym (behind-none (text_of at (drop a
 pub IsBehind-more : TextSteps → (at : ℕ) (bytes units : List ℕ) (place u n : ℕ) → IsBehind at bytes units place → front_of place (drop place bytes) ≡ Ok (Some (u, n)) →
     IsBehind at bytes (units ++ u ∷ []) (place + n)
 IsBehind-more steps at bytes units place u n b e = record {
-    text = b.text ∙ ap (behind units) (steps.goes_on place (drop place bytes) u n e)
+  text = b.text ∙ ap (behind units) (steps.goes_on place (drop place bytes) u n e)
       ∙ behind-more units u (text_of (place + n) (drop n (drop place bytes)))
       ∙ ap (λ rest. behind (units ++ u ∷ []) (text_of (place + n) rest)) (drop-drop n place bytes);
-    within = omega (arith, b.within, steps.fits place (drop place bytes) u n e, length-drop place bytes);
-    short = omega (arith, b.short, steps.some place (drop place bytes) u n e, length_push units u)
-  }
+  within = omega (arith, b.within, steps.fits place (drop place bytes) u n e, length-drop place bytes);
+  short = omega (arith, b.short, steps.some place (drop place bytes) u n e, length_push units u);
+}
 
 pub IsBehind-end : TextSteps → (at : ℕ) (bytes units : List ℕ) (place : ℕ) → IsBehind at bytes units place → front_of place (drop place bytes) ≡ Ok None →
     text_of at (drop at bytes) ≡ Ok (units, place + 1)

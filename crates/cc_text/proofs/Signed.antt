@@ -1,5 +1,5 @@
 -- Signed numbers in LEB128.
-use Rattle.std.proofs.Common.{◌≡◌, ℕ, zero, suc, ◌+◌, ◌-◌, ◌*◌, ◌%◌, ◌<◌, ◌≤◌, ◌^◌, ◌⊎◌, Bool, true, false, cond, List, [], ◌∷◌, length, take, drop, get_or, Result, Ok, Err, ℤ, pos, ◌+ℤ◌, ◌*ℤ◌, neg_ℤ, ◌≤ℤ◌, ◌<ℤ◌, refl, sym, ap, ◌∙◌, subst, inl, inr, arith}
+use Rattle.std.proofs.Common.{◌≡◌, ℕ, zero, suc, ◌+◌, ◌-◌, ◌*◌, ◌%◌, ◌<◌, ◌≤◌, ◌^◌, ◌⊎◌, true, false, List, [], ◌∷◌, length, take, drop, get_or, Result, Ok, Err, ℤ, pos, ◌+ℤ◌, ◌*ℤ◌, neg_ℤ, ◌≤ℤ◌, ◌<ℤ◌, refl, sym, ap, ◌∙◌, subst, inl, inr, arith}
 use Rattle.std.specs.Prelude.{IfOk, OnErr}
 use Rattle.std.proofs.Math.Nat.{pow-suc}
 use Rattle.std.proofs.lemmas.Int.{ints}
@@ -54,9 +54,9 @@ pub record Near (size : ℕ) (n : ℤ) : Type 0 where
 
 near_group : (g size : ℕ) → g < 128 → 128 ≤ size → Near size (signed_group g)
 near_group g size h k = elim (cases_lt g 64) [
-      inl low ↦ let e = group_low g low in record { above = omega (arith, ints, e); below = omega (arith, ints, e) }
-    | inr high ↦ let e = group_high g high in record { above = omega (arith, ints, e); below = omega (arith, ints, e) }
-    ]
+  | inl low ↦ let e = group_low g low in record { above = omega (arith, ints, e); below = omega (arith, ints, e) }
+  | inr high ↦ let e = group_high g high in record { above = omega (arith, ints, e); below = omega (arith, ints, e) }
+]
 
 pub signed_near : (k : ℕ) (bytes : List ℕ) → length bytes ≤ k → Near (128 ^ k) (signed_leb_value bytes)
 signed_near zero [] h = record { above = omega (arith, ints, signed_none); below = omega (arith, ints, signed_none) }

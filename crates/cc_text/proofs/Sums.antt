@@ -20,10 +20,10 @@ sums_nil a b = refl
 pub Sums-more : (bytes : List ℕ) (i a b : ℕ) → i < length bytes → Sums bytes i a b →
     Sums bytes (i + 1) ((a + get_or bytes i 0) % 65521) ((b + (a + get_or bytes i 0) % 65521) % 65521)
 Sums-more bytes i a b h s = record {
-    sums = sym (sums_cons a b (get_or bytes i 0) (drop (i + 1) bytes)) ∙ ap (adler_sums a b) (sym (drop_more bytes i 0 h)) ∙ s.sums;
-    first = omega arith;
-    second = omega arith
-  }
+  sums = sym (sums_cons a b (get_or bytes i 0) (drop (i + 1) bytes)) ∙ ap (adler_sums a b) (sym (drop_more bytes i 0 h)) ∙ s.sums;
+  first = omega arith;
+  second = omega arith;
+}
 
 pub Sums-all : (bytes : List ℕ) (i a b : ℕ) → length bytes ≤ i → Sums bytes i a b → adler32_of bytes ≡ b * 65536 + a
 unfolding adler32_of

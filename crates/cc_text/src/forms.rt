@@ -87,6 +87,8 @@ fn front_of_three(at: usize, first: u8, bytes: &[u8]) -> Result<Option<(u16, usi
     if !goes_on(third) {
         return Err(TextFault::BadForm { at });
     }
-    let unit = u16::from(first - 224) * 4096 + u16::from(second - 128) * 64 + u16::from(third - 128);
+    let unit = u16::from(first - 224) * 4096
+        + u16::from(second - 128) * 64
+        + u16::from(third - 128);
     Ok(Some((unit, 3)))
 }

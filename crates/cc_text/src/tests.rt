@@ -55,11 +55,27 @@ fn reads_texts(rt: HostRuntime) -> Result<(), Fail> {
 #[test]
 fn refuses_texts(rt: HostRuntime) {
     for (bytes, count, want) in [
-        (b"\xc0\x80\x41\xed\xa0\xbd\xed\xb8\x80\x00".as_slice(), 3, TextFault::BadCount),
+        (
+            b"\xc0\x80\x41\xed\xa0\xbd\xed\xb8\x80\x00".as_slice(),
+            3,
+            TextFault::BadCount,
+        ),
         (b"\xc1\x81\x00".as_slice(), 1, TextFault::BadForm { at: 0 }),
-        (b"\xf0\x9f\x98\x80\x00".as_slice(), 2, TextFault::BadForm { at: 0 }),
-        (b"\x41\xe0\x81\x81\x00".as_slice(), 2, TextFault::BadForm { at: 1 }),
-        (b"\x41\xc3\x41\x00".as_slice(), 2, TextFault::BadForm { at: 1 }),
+        (
+            b"\xf0\x9f\x98\x80\x00".as_slice(),
+            2,
+            TextFault::BadForm { at: 0 },
+        ),
+        (
+            b"\x41\xe0\x81\x81\x00".as_slice(),
+            2,
+            TextFault::BadForm { at: 1 },
+        ),
+        (
+            b"\x41\xc3\x41\x00".as_slice(),
+            2,
+            TextFault::BadForm { at: 1 },
+        ),
         (b"\x41\x80\x00".as_slice(), 9, TextFault::BadForm { at: 1 }),
         (b"\x41\xc3".as_slice(), 2, TextFault::CutOff),
         (b"\xed\xa0".as_slice(), 1, TextFault::CutOff),
@@ -67,9 +83,16 @@ fn refuses_texts(rt: HostRuntime) {
         (b"\x41".as_slice(), 9, TextFault::CutOff),
         (b"".as_slice(), 0, TextFault::CutOff),
     ] {
-        assert_eq!(rt; mutf8(rt.alloc(), bytes, 0, count).err(), Some(want), "of {bytes:?}");
+        assert_eq!(rt;
+            mutf8(rt.alloc(), bytes, 0, count).err(),
+            Some(want),
+            "of {bytes:?}"
+        );
     }
-    assert_eq!(rt; text(rt.alloc(), b"\x02A\x00", 0).err(), Some(TextFault::BadCount));
+    assert_eq!(rt;
+        text(rt.alloc(), b"\x02A\x00", 0).err(),
+        Some(TextFault::BadCount)
+    );
     assert_eq!(rt; text(rt.alloc(), b"\x80", 0).err(), Some(TextFault::CutOff));
 }
 

@@ -7,13 +7,17 @@ ghost use Rattle.cc_text.specs.Measured.{measured};
 
 use crate::forms::front;
 use crate::leb128::uleb;
-use std::alloc::{AllocError, Global};
-
 use cc_meaning::fault::{LebFault, TextFault};
 use cc_meaning_file::{mutf8_agrees, mutf8_answers, text_agrees, text_steps};
+use std::alloc::{AllocError, Global};
 
 /// The text of that many units in MUTF-8 at `at`, and the place after its zero byte. Memory is taken once, and only where there is such a text.
-pub fn mutf8(alloc: Global, bytes: &[u8], at: usize, count: u32) -> Result<(Vec<u16>, usize), TextFault>
+pub fn mutf8(
+    alloc: Global,
+    bytes: &[u8],
+    at: usize,
+    count: u32,
+) -> Result<(Vec<u16>, usize), TextFault>
     ensures ok { IfOk result (λ read. mutf8_at bytes.now at count ≡ Ok (read.0.items, read.1)) }
     ensures err { IfErr result (λ fault. fault ≢ TextFault.Memory → mutf8_at bytes.now at count ≡ Err fault) }
     ensures memory { IsErrOf result TextFault.Memory → IsOk (mutf8_at bytes.now at count) }
@@ -54,7 +58,12 @@ fn read_text(alloc: Global, bytes: &[u8], at: usize) -> Result<Vec<u16>, TextFau
     }
 }
 
-fn read_mutf8(alloc: Global, bytes: &[u8], at: usize, count: u32) -> Result<(Vec<u16>, usize), TextFault>
+fn read_mutf8(
+    alloc: Global,
+    bytes: &[u8],
+    at: usize,
+    count: u32,
+) -> Result<(Vec<u16>, usize), TextFault>
     ensures ok { IfOk result (λ read. mutf8_at bytes.now at count ≡ Ok (read.0.items, read.1)) }
     ensures err { IfErr result (λ fault. fault ≢ TextFault.Memory → mutf8_at bytes.now at count ≡ Err fault) }
     ensures memory { IsErrOf result TextFault.Memory → IsOk (mutf8_at bytes.now at count) }

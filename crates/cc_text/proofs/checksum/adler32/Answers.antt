@@ -1,4 +1,4 @@
-use Rattle.std.proofs.Common.{sym, ap, arith}
+use Rattle.std.proofs.Common.{sym, arith}
 use Rattle.cc_text.proofs.Sums.{Sums-more, Sums-all}
 use Rattle.cc_text.proofs.checksum.adler32.Goals as goal
 

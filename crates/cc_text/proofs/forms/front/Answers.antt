@@ -1,4 +1,4 @@
-use Rattle.std.proofs.Common.{◌≡◌, ◌≢◌, ◌<◌, ◌≤◌, ◌∙◌, Bool, true, false, length, get_or, drop, sym, ap, refl, inl, inr, arith}
+use Rattle.std.proofs.Common.{◌≡◌, ◌<◌, ◌∙◌, length, get_or, sym, ap, refl, inl, inr, arith}
 use Rattle.std.proofs.lemmas.Bool.Decides.{nat_tests}
 use Rattle.std.proofs.lemmas.List.{take_rest}
 use Rattle.cc_meaning_file.specs.Mutf8.{front_of_two, front_of_three}
@@ -23,8 +23,8 @@ returns-then-first-ge240 c =
     let some : 0 < length c.args.bytes.now = grind (arith, nat_tests) in
     let first = get_or c.args.bytes.now 0 0 in
     elim c.if-first-ge240.either [
-      inl stray ↦ sym (front_stray c.args.at first c.args.bytes.now some refl (omega arith) stray)
-    | inr high ↦ sym (front_high c.args.at first c.args.bytes.now some refl high.1)
+      | inl stray ↦ sym (front_stray c.args.at first c.args.bytes.now some refl (omega arith) stray)
+      | inr high ↦ sym (front_high c.args.at first c.args.bytes.now some refl high.1)
     ]
 
 pub returns-then-first-lt224 : goal.returns-then-first-lt224

@@ -1,4 +1,4 @@
-use Rattle.std.proofs.Common.{◌≡◌, ◌+◌, ◌-◌, ◌<◌, ◌≤◌, ◌^◌, length, take, drop, ◌⊎◌, ◌<ℤ◌, ◌≤ℤ◌, neg_ℤ, to_z, of_z, w32, w64, sym, ap, ◌∙◌, inl, inr, Ok, pos, arith}
+use Rattle.std.proofs.Common.{◌≡◌, ◌+◌, ◌^◌, take, ◌⊎◌, ◌<ℤ◌, ◌≤ℤ◌, neg_ℤ, to_z, of_z, w32, w64, sym, ap, ◌∙◌, inl, inr, Ok, pos, arith}
 use Rattle.std.proofs.lemmas.Int.{ints}
 use Rattle.std.proofs.lemmas.Result.{err_from_is_err_and}
 use Rattle.cc_meaning_file.specs.Leb128.{FitsI32, leb_size, signed_leb_value}
@@ -28,5 +28,5 @@ returns-else-value-from c =
     let found = ap (leb_size 5) (sym c.split_at.ensures.back) ∙ sym c.in_ok-size.ensures.value in
     let value = c.signed_value-value.ensures ∙ ap signed_leb_value (c.split_at-2.ensures.front ∙ ap (take c.in_ok-size.size) c.split_at.ensures.back) in
     let outside : (c.signed_value-value.result <ℤ neg_ℤ (pos (2 ^ 31))) ⊎ (pos (2 ^ 31) ≤ℤ c.signed_value-value.result) =
-      elim c.else-value-from.branch [ else-value-from-via-then-value-from+else-value-from-2 w ↦ inr (omega (arith, ints)) | else-value-from-via-else-value-from w ↦ inl (omega (arith, ints)) ] in
+    elim c.else-value-from.branch [ else-value-from-via-then-value-from+else-value-from-2 w ↦ inr (omega (arith, ints)) | else-value-from-via-else-value-from w ↦ inl (omega (arith, ints)) ] in
     sym (sleb_at-big c.args.bytes.now c.args.at c.in_ok-size.size c.signed_value-value.result found value outside)
