@@ -1,5 +1,5 @@
 -- Plain files.
-use Rattle.std.specs.Prelude.{◌≡◌, ◌≢◌, ◌⊎◌, ℕ, ◌+◌, ◌<◌, ◌≤◌, List, [], ◌∷◌, ◌++◌, length, Any, All, bit_and}
+use Rattle.std.specs.Prelude.{◌≡◌, ◌≢◌, ◌⊎◌, ℕ, ◌+◌, ◌≤◌, List, [], ◌∷◌, ◌++◌, length, All, bit_and}
 use Rattle.cc_meaning_file.specs.Numbers.{u32_at}
 use Rattle.cc_meaning_file.specs.Leb128.{SpellsUleb}
 use Rattle.cc_meaning_plain.specs.declared.table.Table.TheVariants.{Classes}

@@ -1,5 +1,5 @@
 -- The program that a plain file is.
-use Rattle.std.specs.Prelude.{ℕ, ◌+◌, List, [], ◌∷◌, Some, None, true, false, codes}
+use Rattle.std.specs.Prelude.{ℕ, ◌+◌, List, [], ◌∷◌, None, true, false, codes}
 use Rattle.cc_meaning.specs.declared.program.Base.TheVariants as base
 use Rattle.cc_meaning.specs.declared.program.DexType.{DexType}
 use Rattle.cc_meaning.specs.declared.program.ClassKind.{ClassKind}

@@ -5,7 +5,6 @@ use Rattle.cc_meaning.specs.declared.report.Ending.{Ending}
 use Rattle.cc_meaning.specs.declared.report.Ending.TheVariants as ending
 use Rattle.cc_meaning.specs.declared.report.Report.{Report}
 use Rattle.cc_meaning.specs.declared.report.Limits.{Limits}
-use Rattle.cc_meaning_run.specs.Invocations.{Invocation}
 use Rattle.cc_meaning_run.specs.Local.{local, invocations}
 use Rattle.cc_meaning_plain.specs.declared.plain.PlainInsn.TheVariants.{SgetOut, Const4, AddInt2Addr, InvokePrintln}
 use Rattle.cc_meaning_plain.specs.declared.plain.Plain.{Plain}
