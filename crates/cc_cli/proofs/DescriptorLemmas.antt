@@ -31,12 +31,14 @@ paired_end true u high low = (λ paired. paired.0 (high.0 refl), λ none. absurd
 paired_end false u high low = (λ paired. tt, λ _. (false_is_not false (IsHigh u) high refl, low))
 
 paired_single : (begins : Bool) (u v : ℕ) (rest : List ℕ) → IsTrue begins ↔ IsHigh u → (IsLow u → ⊥) → IsPaired (u ∷ v ∷ rest) ↔ IsPairedAfter begins (v ∷ rest)
-paired_single true u v rest high low =
-    (λ paired. elim paired [ inl pair ↦ (pair.0.1, pair.1) | inr single ↦ absurd (single.0.0 (high.0 refl)) ],
-     λ pair. inl ((high.0 refl, pair.0), pair.1))
-paired_single false u v rest high low =
-    (λ paired. elim paired [ inl pair ↦ absurd (false_is_not false (IsHigh u) high refl pair.0.0) | inr single ↦ single.1 ],
-     λ single. inr ((false_is_not false (IsHigh u) high refl, low), single))
+paired_single true u v rest high low = (
+  λ paired. elim paired [ inl pair ↦ (pair.0.1, pair.1) | inr single ↦ absurd (single.0.0 (high.0 refl)) ],
+  λ pair. inl ((high.0 refl, pair.0), pair.1),
+)
+paired_single false u v rest high low = (
+  λ paired. elim paired [ inl pair ↦ absurd (false_is_not false (IsHigh u) high refl pair.0.0) | inr single ↦ single.1 ],
+  λ single. inr ((false_is_not false (IsHigh u) high refl, low), single),
+)
 
 paired_open : (begins : Bool) (u : ℕ) (rest : List ℕ) → IsTrue begins ↔ IsHigh u → IsLow u → (IsLow u × IsPaired rest) ↔ IsPairedAfter begins rest
 paired_open true u rest high low = absurd (high_is_not_low u (high.0 refl) low)
@@ -100,6 +102,7 @@ name_some units some none =
 
 -- such units are a descriptor just if their name is a class's
 pub descriptor_is : (units : List ℕ) → 3 ≤ length units → get_or units 0 0 ≡ 76 → get_or units (length units - 1) 0 ≡ 59 → (All IsNameUnit (name_of units) × IsPaired (name_of units)) ↔ IsClassDescriptor units
-descriptor_is units some first last =
-    (λ fits. record { name = name_of units; form = form_of units some first last; some = name_some units some; plain = fits.0; paired = fits.1 },
-     λ is. let same = sym (name_is units is.name is.form) in (subst (λ name. All IsNameUnit name) same is.plain, subst (λ name. IsPaired name) same is.paired))
+descriptor_is units some first last = (
+  λ fits. record { name = name_of units; form = form_of units some first last; some = name_some units some; plain = fits.0; paired = fits.1 },
+  λ is. let same = sym (name_is units is.name is.form) in (subst (λ name. All IsNameUnit name) same is.plain, subst (λ name. IsPaired name) same is.paired),
+)

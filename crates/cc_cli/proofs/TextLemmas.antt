@@ -1,5 +1,5 @@
 -- Which numbers and names a text item spells.
-use Rattle.std.proofs.Common.{◌≡◌, ◌≢◌, ◌↔◌, ℕ, ◌+◌, ◌<◌, Bool, true, false, ◌&&◌, ◌==◌, nat_lt, List, [], ◌∷◌, ◌++◌, length, Option, Some, None, Result, MatchOption, IfOk, All, IsTrue, refl, sym, ap, subst, ◌∙◌, arith}
+use Rattle.std.proofs.Common.{◌≡◌, ◌≢◌, ◌↔◌, ℕ, ◌+◌, ◌<◌, Bool, true, false, ◌&&◌, ◌==◌, nat_lt, List, [], ◌∷◌, ◌++◌, length, Option, Some, None, Result, MatchOption, IfOk, All, IsTrue, refl, sym, subst, arith}
 use Rattle.std.specs.List.{list_all}
 use Rattle.std.proofs.lemmas.Bool.Decides.{nat_tests}
 use Rattle.std.proofs.lemmas.List.Elements.{All-nil, All-cons}
@@ -8,19 +8,13 @@ use Rattle.std.proofs.lemmas.Result.{IfOk-weaker}
 use Rattle.cc_meaning_file.specs.Numbers.{u32_at, Stands}
 use Rattle.cc_meaning_file.specs.Leb128.{SpellsUleb}
 use Rattle.cc_meaning_file.specs.Mutf8.{unit_form, mutf8_bytes}
-use Rattle.cc_meaning_file.specs.Texts.{SpellsText, text_at}
-use Rattle.cc_meaning_file.specs.Laws.{UlebAgrees, TextAgrees}
+use Rattle.cc_meaning_file.specs.Texts.{SpellsText}
+use Rattle.cc_meaning_file.specs.Laws.{OneUleb}
 use Rattle.cc_meaning_plain.specs.declared.table.Table.TheVariants.{Texts, Types}
 use Rattle.cc_meaning_plain.specs.Tables.{row_at, IsRow}
 use Rattle.cc_meaning_plain.specs.Names.{TextRow, TypeRow}
+use Rattle.cc_meaning_plain.specs.Laws.{TypeOnce}
 use Rattle.cc_cli.specs.Ascii.{is_ascii_unit, IsAsciiName}
-
--- one number at most is spelled at a place
-pub same_number : UlebAgrees → (file : List ℕ) (at n next m after : ℕ) → SpellsUleb file at n next → SpellsUleb file at m after → (n ≡ m) × (next ≡ after)
-same_number agrees file at n next m after first second =
-    let e = sym ((agrees file at n next).1 first) ∙ (agrees file at m after).1 second in
-    let both : (n, next) ≡ (m, after) = cc in
-    (ap (λ (p : ℕ × ℕ). p.0) both, ap (λ (p : ℕ × ℕ). p.1) both)
 
 both_true : (a b : Bool) → (a && b) ≡ true → (a ≡ true) × (b ≡ true)
 both_true true b e = (refl, e)
@@ -56,9 +50,9 @@ small_units (u ∷ us) h =
 pub no_text : (file : List ℕ) (at : ℕ) (units : List ℕ) → ((n next : ℕ) → SpellsUleb file at n next → ⊥) → SpellsText file at units → ⊥
 no_text file at units none text = none (length units) text.place text.count
 
-pub other_count : UlebAgrees → (file : List ℕ) (at n next : ℕ) (units : List ℕ) → SpellsUleb file at n next → n ≢ length units → SpellsText file at units → ⊥
-other_count agrees file at n next units number other text =
-    other (same_number agrees file at n next (length units) text.place number text.count).0
+pub other_count : OneUleb → (file : List ℕ) (at n next : ℕ) (units : List ℕ) → SpellsUleb file at n next → n ≢ length units → SpellsText file at units → ⊥
+other_count one file at n next units number other text =
+    other (one file at n (length units) next text.place number text.count).0
 
 -- the text of a name is its count, its bytes and a zero byte
 pub text_from_bytes : (file : List ℕ) (at place : ℕ) (name : List ℕ) → IsAsciiName name → SpellsUleb file at (length name) place → Stands file place (name ++ 0 ∷ []) → SpellsText file at name
@@ -74,9 +68,9 @@ text_from_bytes file at place name ascii number stands =
       };
     }
 
-pub bytes_from_text : UlebAgrees → (file : List ℕ) (at n place : ℕ) (name : List ℕ) → IsAsciiName name → SpellsUleb file at n place → SpellsText file at name → Stands file place (name ++ 0 ∷ [])
-bytes_from_text agrees file at n place name ascii number text =
-    let same = same_number agrees file at n place (length name) text.place number text.count in
+pub bytes_from_text : OneUleb → (file : List ℕ) (at n place : ℕ) (name : List ℕ) → IsAsciiName name → SpellsUleb file at n place → SpellsText file at name → Stands file place (name ++ 0 ∷ [])
+bytes_from_text one file at n place name ascii number text =
+    let same = one file at n (length name) place text.place number text.count in
     let stands = subst (λ bytes. Stands file text.place (bytes ++ 0 ∷ [])) (mutf8_bytes-ascii name ascii) text.text.stands in
     subst (λ p. Stands file p (name ++ 0 ∷ [])) (sym same.1) stands
 
@@ -86,10 +80,6 @@ bytes_from_text agrees file at n place name ascii number text =
 abbrev pub Reads : (List ℕ → Type 0) → Option (List ℕ) → Type 0
 Reads P read = MatchOption read ((units : List ℕ) → P units → ⊥) (λ units. P units)
 
-pub text_read : TextAgrees → (file : List ℕ) (at : ℕ) (read : Option (List ℕ)) → read ≡ text_at file at → Reads (SpellsText file at) read
-text_read agrees file at None e = λ units text. let found = (agrees file at units).1 text in absurd (cc)
-text_read agrees file at (Some units) e = (agrees file at units).0 (sym e)
-
 reads_like : (P Q : List ℕ → Type 0) → ((units : List ℕ) → P units → Q units) → ((units : List ℕ) → Q units → P units) → (read : Option (List ℕ)) → Reads P read → Reads Q read
 reads_like P Q to from None none = λ units q. none units (from units q)
 reads_like P Q to from (Some units) p = to units p
@@ -98,26 +88,17 @@ pub text_row_read : (file : List ℕ) (row : ℕ) (r : Result (Option (List ℕ)
     IfOk r (Reads (SpellsText file (u32_at file (row_at file Texts row)))) → IfOk r (Reads (TextRow file row))
 text_row_read file row r stands read =
     IfOk-weaker r (Reads (SpellsText file (u32_at file (row_at file Texts row)))) (Reads (TextRow file row))
-      (λ found. reads_like (SpellsText file (u32_at file (row_at file Texts row))) (TextRow file row)
-        (λ units text. record { row_stands = stands; text = text }) (λ units row. row.text) found) read
+    (λ found. reads_like (SpellsText file (u32_at file (row_at file Texts row))) (TextRow file row)
+    (λ units text. record { row_stands = stands; text = text }) (λ units row. row.text) found) read
 
 pub type_row_read : (file : List ℕ) (row : ℕ) (r : Result (Option (List ℕ)) AllocError) → IsRow file Types row →
     IfOk r (Reads (TextRow file (u32_at file (row_at file Types row)))) → IfOk r (Reads (TypeRow file row))
 type_row_read file row r stands read =
     IfOk-weaker r (Reads (TextRow file (u32_at file (row_at file Types row)))) (Reads (TypeRow file row))
-      (λ found. reads_like (TextRow file (u32_at file (row_at file Types row))) (TypeRow file row)
-        (λ units descriptor. record { row_stands = stands; descriptor = descriptor }) (λ units row. row.descriptor) found) read
-
-pub same_text : TextAgrees → (file : List ℕ) (at : ℕ) (first second : List ℕ) → SpellsText file at first → SpellsText file at second → first ≡ second
-same_text agrees file at first second a b =
-    let e = sym ((agrees file at first).1 a) ∙ (agrees file at second).1 b in cc
-
--- a row of types has one descriptor at most
-pub same_type : TextAgrees → (file : List ℕ) (row : ℕ) (first second : List ℕ) → TypeRow file row first → TypeRow file row second → first ≡ second
-same_type agrees file row first second a b =
-    same_text agrees file (u32_at file (row_at file Texts (u32_at file (row_at file Types row)))) first second a.descriptor.text b.descriptor.text
+    (λ found. reads_like (TextRow file (u32_at file (row_at file Types row))) (TypeRow file row)
+    (λ units descriptor. record { row_stands = stands; descriptor = descriptor }) (λ units row. row.descriptor) found) read
 
 -- a row of types has this descriptor just if it is the one that it was read to have
-pub named_is : TextAgrees → (file : List ℕ) (row : ℕ) (found name : List ℕ) (is : Bool) → TypeRow file row found → IsTrue is ↔ (found ≡ name) → IsTrue is ↔ TypeRow file row name
-named_is agrees file row found name is type same =
-    (λ e. subst (λ units. TypeRow file row units) (same.0 e) type, λ other. same.1 (same_type agrees file row found name type other))
+pub named_is : TypeOnce → (file : List ℕ) (row : ℕ) (found name : List ℕ) (is : Bool) → TypeRow file row found → IsTrue is ↔ (found ≡ name) → IsTrue is ↔ TypeRow file row name
+named_is one file row found name is type same =
+    (λ e. subst (λ units. TypeRow file row units) (same.0 e) type, λ other. same.1 (one file row found name type other))

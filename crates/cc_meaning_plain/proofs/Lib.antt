@@ -2,3 +2,4 @@ pub mod Worked
 pub mod Running
 pub mod Returns
 pub mod Once
+pub mod PlainOnce

@@ -1,5 +1,5 @@
 -- The laws of plain files.
-use Rattle.std.specs.Prelude.{◌≡◌, ℕ, ◌<◌, pos, List, [], replicate, Some, slice_index}
+use Rattle.std.specs.Prelude.{◌≡◌, ℕ, ◌<◌, pos, List, [], length, replicate, Some, slice_index}
 use Rattle.cc_meaning.specs.declared.report.Ending.TheVariants as ending
 use Rattle.cc_meaning.specs.declared.report.Report.{Report}
 use Rattle.cc_meaning.specs.declared.report.Limits.{Limits}
@@ -7,7 +7,8 @@ use Rattle.cc_meaning_run.specs.Local.{local}
 use Rattle.cc_meaning_plain.specs.declared.plain.Plain.{Plain}
 use Rattle.cc_meaning_plain.specs.declared.plain.PlainInsn.{PlainInsn}
 use Rattle.cc_meaning_plain.specs.Code.{SpellsInsn, SpellsInsns, IsPlainCode}
-use Rattle.cc_meaning_plain.specs.Plain.{IsPlain}
+use Rattle.cc_meaning_plain.specs.Names.{TypeRow}
+use Rattle.cc_meaning_plain.specs.Plain.{SpellsNumbers, IsPlain}
 use Rattle.cc_meaning_plain.specs.Program.{setting_of}
 use Rattle.cc_meaning_plain.specs.Text.{text_of}
 
@@ -30,6 +31,15 @@ AreBytes file = (i : ℕ) → slice_index file i < 256
 abbrev pub PlainReturns : Type 0
 PlainReturns = (file : List ℕ) (plain : Plain) → AreBytes file → IsPlain file plain →
     (report : Report) × Prints plain (text_of (replicate plain.registers (pos 0)) plain.insns) report
+
+-- a row of types has one descriptor at most
+abbrev pub TypeOnce : Type 0
+TypeOnce = (file : List ℕ) (row : ℕ) (first second : List ℕ) → TypeRow file row first → TypeRow file row second → first ≡ second
+
+-- at a place stand so many numbers in one way at most
+abbrev pub NumbersOnce : Type 0
+NumbersOnce = (file : List ℕ) (at : ℕ) (first second : List ℕ) → length first ≡ length second →
+    SpellsNumbers file at first → SpellsNumbers file at second → first ≡ second
 
 -- a file is plain in one way at most
 abbrev pub PlainOnce : Type 0

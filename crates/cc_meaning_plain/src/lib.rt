@@ -1,12 +1,13 @@
 //! Plain files: what the bytes of a file of one printing class spell, and the program that it is.
 #![tactic(auto)]
 
-ghost use Rattle.cc_meaning_plain.specs.Laws.{PlainReturns, InsnOnce, InsnsOnce, CodeOnce};
+ghost use Rattle.cc_meaning_plain.specs.Laws.{TypeOnce, NumbersOnce, InsnOnce, InsnsOnce, CodeOnce, PlainOnce, PlainReturns};
 ghost use Rattle.cc_meaning_plain.specs.Worked.{TakesSix, TakesSixWords, IsOneInvocation};
 
 mod plain;
 mod table;
 
+use cc_meaning_file::{one_text, one_uleb};
 pub use plain::{Held, Plain, PlainInsn, PlainInsns};
 pub use table::Table;
 
@@ -27,18 +28,39 @@ pub fn law_plain_returns()
 #[tactic(auto, using(crate::proofs::Once::insn_once))]
 pub fn law_insn_once()
     ensures { InsnOnce }
-{
-}
+{}
 
 /// In so many units stands one list of instructions at most.
 #[tactic(auto, using(crate::proofs::Once::insns_once))]
 pub fn law_insns_once()
     ensures { InsnsOnce }
-{
-}
+{}
 
 /// At a place stands one code item of a plain `main` at most.
 #[tactic(auto, using(crate::proofs::Once::code_once))]
 pub fn law_code_once()
     ensures { CodeOnce }
 {}
+
+/// A row of types has one descriptor at most.
+pub fn law_type_once()
+    ensures { TypeOnce }
+{
+    one_text();
+}
+
+/// At a place stand so many numbers in one way at most.
+pub fn law_numbers_once()
+    ensures { NumbersOnce }
+{
+    one_uleb();
+}
+
+/// A file is plain in one way at most.
+pub fn law_plain_once()
+    ensures { PlainOnce }
+{
+    law_type_once();
+    law_numbers_once();
+    law_code_once();
+}

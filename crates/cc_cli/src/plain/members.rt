@@ -4,7 +4,7 @@ ghost use Rattle.std.specs.Prelude.{◌≡◌, ◌≢◌, ◌↔◌, ◌∷◌, 
 ghost use Rattle.cc_meaning_file.specs.Leb128.{SpellsUleb};
 ghost use Rattle.cc_meaning_plain.specs.Plain.{SpellsNumbers, IsHigh, IsLow, IsPaired, IsNameUnit, IsClassDescriptor, IsStaticCode};
 
-use cc_meaning_file::uleb_agrees;
+use cc_meaning_file::one_uleb;
 use cc_text::uleb;
 
 /// Whether a unit begins a pair of UTF-16.
@@ -83,7 +83,7 @@ fn after_number(file: &[u8], at: usize, wanted: u32) -> Option<usize>
         ((next : ℕ) → SpellsUleb file.now at wanted next → ⊥)
         (λ next. SpellsUleb file.now at wanted next) }
 {
-    uleb_agrees();
+    one_uleb();
     let (found, next) = number(file, at)?;
     if found != wanted {
         return None;
@@ -97,7 +97,7 @@ fn after_counts(file: &[u8], at: usize) -> Option<usize>
         ((rest : List ℕ) → SpellsNumbers file.now at (0 ∷ 0 ∷ 1 ∷ 0 ∷ rest) → ⊥)
         (λ next. (rest : List ℕ) → SpellsNumbers file.now at (0 ∷ 0 ∷ 1 ∷ 0 ∷ rest) ↔ SpellsNumbers file.now next rest) }
 {
-    uleb_agrees();
+    one_uleb();
     let fields = after_number(file, at, 0)?;
     let instance_fields = after_number(file, fields, 0)?;
     let direct = after_number(file, instance_fields, 1)?;
@@ -111,7 +111,7 @@ pub fn read_method(file: &[u8], at: u32) -> Option<(u32, u32, u32)>
         ((method flags code : ℕ) → SpellsNumbers file.now at (0 ∷ 0 ∷ 1 ∷ 0 ∷ method ∷ flags ∷ code ∷ []) → ⊥)
         (λ read. SpellsNumbers file.now at (0 ∷ 0 ∷ 1 ∷ 0 ∷ read.0 ∷ read.1 ∷ read.2 ∷ [])) }
 {
-    uleb_agrees();
+    one_uleb();
     let counts = after_counts(file, at as usize)?;
     let (method, after_method) = number(file, counts)?;
     let (flags, after_flags) = number(file, after_method)?;

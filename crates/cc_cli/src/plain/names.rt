@@ -11,8 +11,8 @@ use super::bytes::{u16_at, u32_at};
 use super::header::{begins, row_at, row_count};
 use cc_meaning::fault::TextFault;
 use cc_meaning::lists::Units;
-use cc_meaning_file::{text_agrees, uleb_agrees};
-use cc_meaning_plain::Table;
+use cc_meaning_file::one_uleb;
+use cc_meaning_plain::{Table, law_type_once};
 use cc_text::{text, uleb};
 use std::alloc::{AllocError, Global};
 
@@ -32,7 +32,7 @@ fn is_text(file: &[u8], at: u32, name: &[u8]) -> bool
     requires { IsAsciiName name.now }
     ensures { IsTrue result ↔ SpellsText file.now at name.now }
 {
-    uleb_agrees();
+    one_uleb();
     let Ok((count, place)) = uleb(file, at as usize) else {
         return false;
     };
@@ -233,7 +233,7 @@ fn is_named(alloc: Global, file: &[u8], row: u32, name: &[u16]) -> Result<bool, 
     requires tables { HasTables file.now }
     ensures { IfOk result (λ is. IsTrue is ↔ TypeRow file.now row name.now) }
 {
-    text_agrees();
+    law_type_once();
     let Some(found) = class_name(alloc, file, row)? else {
         return Ok(false);
     };

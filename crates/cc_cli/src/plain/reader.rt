@@ -11,8 +11,7 @@ use super::header::{has_header, has_tables, row_at, row_count};
 use super::members::{is_class_descriptor, is_static_code, read_method};
 use super::names::{class_name, is_main};
 use cc_meaning::lists::Units;
-use cc_meaning_file::{text_agrees, uleb_agrees};
-use cc_meaning_plain::{Plain, Table};
+use cc_meaning_plain::{Plain, Table, law_numbers_once, law_type_once};
 use std::alloc::{AllocError, Global};
 
 /// The longest file that is read.
@@ -39,7 +38,7 @@ fn read_class(alloc: Global, file: &[u8]) -> Result<Option<Units>, AllocError>
         ((name : List ℕ) → IsClass file.now name → ⊥)
         (λ name. IsClass file.now name)) }
 {
-    text_agrees();
+    law_type_once();
     let row = u32_at(file, row_at(file, Table::Classes, 0));
     let Some(name) = class_name(alloc, file, row)? else {
         return Ok(None);
@@ -57,7 +56,7 @@ fn read_main(alloc: Global, file: &[u8], class: &[u16]) -> Result<Option<u32>, A
         ((code_at : ℕ) → HasMain file.now class.now code_at → ⊥)
         (λ code_at. HasMain file.now class.now code_at)) }
 {
-    uleb_agrees();
+    law_numbers_once();
     let members = u32_at(file, row_at(file, Table::Classes, 0) + 24);
     let Some((method, flags, code_at)) = read_method(file, members) else {
         return Ok(None);
@@ -77,8 +76,8 @@ pub fn read_plain(alloc: Global, file: &[u8]) -> Result<Option<Plain>, AllocErro
         ((plain : Plain) → IsPlain file.now plain → ⊥)
         (λ plain. IsPlain file.now plain)) }
 {
-    text_agrees();
-    uleb_agrees();
+    law_type_once();
+    law_numbers_once();
     if !has_one_class(file) {
         return Ok(None);
     }

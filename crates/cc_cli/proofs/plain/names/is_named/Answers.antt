@@ -12,4 +12,4 @@ pub returns : goal.returns
 returns c =
     let type = rw c.in-Some.is at c.in_ok-found.ensures in
     let same = rw c.as_slice.ensures at (slice_eq-Decides Decides-eqb c.as_slice.result.now c.args.name.now c.eq.result c.eq.ensures) in
-    named_is c.text_agrees.ensures c.args.file.now c.args.row c.in-Some.found c.args.name.now c.eq.result type same
+    named_is c.law_type_once.ensures c.args.file.now c.args.row c.in-Some.found c.args.name.now c.eq.result type same

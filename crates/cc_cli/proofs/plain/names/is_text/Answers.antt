@@ -5,7 +5,7 @@ use Rattle.cc_cli.proofs.plain.names.is_text.Goals as goal
 
 pub returns-then-count-name : goal.returns-then-count-name
 returns-then-count-name c =
-    (λ e. absurd (cc), λ text. absurd (other_count c.uleb_agrees.ensures c.args.file.now c.args.at c.in-Ok.count c.in-Ok.place c.args.name.now c.in-Ok.ensures.spelled c.if-count-name.true text))
+    (λ e. absurd (cc), λ text. absurd (other_count c.one_uleb.ensures c.args.file.now c.args.at c.in-Ok.count c.in-Ok.place c.args.name.now c.in-Ok.ensures.spelled c.if-count-name.true text))
 
 pub returns : goal.returns
 returns c =
@@ -13,5 +13,5 @@ returns c =
     let name = c.args.name.now in
     let number = subst (λ n. SpellsUleb file c.args.at n c.in-Ok.place) c.if-count-name.false c.in-Ok.ensures.spelled in (
       λ e. text_from_bytes file c.args.at c.in-Ok.place name c.requires number (c.stands_ended.ensures.0 e),
-      λ text. c.stands_ended.ensures.1 (bytes_from_text c.uleb_agrees.ensures file c.args.at c.in-Ok.count c.in-Ok.place name c.requires c.in-Ok.ensures.spelled text),
+      λ text. c.stands_ended.ensures.1 (bytes_from_text c.one_uleb.ensures file c.args.at c.in-Ok.count c.in-Ok.place name c.requires c.in-Ok.ensures.spelled text),
     )

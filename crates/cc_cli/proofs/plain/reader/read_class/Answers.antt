@@ -14,5 +14,5 @@ returns-then-not-is_class_descriptor c =
     let file = c.args.file.now in
     let row = c.u32_at-row.ensures ∙ ap (λ at. u32_at file at) c.row_at.ensures.exact in
     let class = rw c.in-Some.is at c.in_ok-name.ensures in
-    no_descriptor c.text_agrees.ensures file c.u32_at-row.result c.in-Some.name c.is_class_descriptor.result row class
-      (rw c.as_slice.ensures at c.is_class_descriptor.ensures) c.if-not-is_class_descriptor.true
+    no_descriptor c.law_type_once.ensures file c.u32_at-row.result c.in-Some.name c.is_class_descriptor.result row class
+    (rw c.as_slice.ensures at c.is_class_descriptor.ensures) c.if-not-is_class_descriptor.true

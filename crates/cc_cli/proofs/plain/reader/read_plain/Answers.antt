@@ -7,13 +7,13 @@ returns-in_default c = no_plain_class c.args.file.now (rw c.in_default.is at c.i
 pub returns-in_default-2 : goal.returns-in_default-2
 returns-in_default-2 c =
     let class = rw c.in-Some.is at c.in_ok-class.ensures in
-    no_plain_main c.text_agrees.ensures c.args.file.now c.in-Some.class class (rw (c.in_default-2.is, c.as_slice.ensures) at c.in_ok-code_at.ensures)
+    no_plain_main c.law_type_once.ensures c.args.file.now c.in-Some.class class (rw (c.in_default-2.is, c.as_slice.ensures) at c.in_ok-code_at.ensures)
 
 pub returns-in_default-3 : goal.returns-in_default-3
 returns-in_default-3 c =
     let class = rw c.in-Some.is at c.in_ok-class.ensures in
     let main = rw (c.in-Some-2.is, c.as_slice.ensures) at c.in_ok-code_at.ensures in
-    no_plain_code c.text_agrees.ensures c.uleb_agrees.ensures c.args.file.now c.in-Some.class c.in-Some-2.code_at class main (rw c.in_default-3.is at c.in_ok-code.ensures)
+    no_plain_code c.law_type_once.ensures c.law_numbers_once.ensures c.args.file.now c.in-Some.class c.in-Some-2.code_at class main (rw c.in_default-3.is at c.in_ok-code.ensures)
 
 pub returns : goal.returns
 returns c =
