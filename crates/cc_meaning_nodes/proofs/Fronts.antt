@@ -223,7 +223,6 @@ partial_below x p =
       | inr le ↦ omega (arith, open_end x (head_of x) refl le p, open_fits x (head_of x) refl le p)
     ]
 
-
 -- ---- want of memory is no fault of the bytes
 
 head-not_memory : (x : List ℕ) → head_of x ≡ Wrong Memory → ⊥
