@@ -95,9 +95,6 @@ fed-right held piece k m h e =
     let front : take (length (held ++ take k piece)) (held ++ piece) ≡ held ++ take k piece = ap (λ (zs : List ℕ). take (length (held ++ take k piece)) zs) (sym (regrouped held piece k)) ∙ take_at (held ++ take k piece) (drop k piece) _ refl in
     ap (λ (F : Front). fed_by F held piece) whole ∙ rw (count, front) refl
 
-pub within-right : (x : List ℕ) (m : Frame) → front_of x ≡ Whole m (length x) → IsWithin x
-within-right x m e = within-whole x m e
-
 pub fed-bad : (held piece : List ℕ) (k : ℕ) (f : FrameFault) → front_of (held ++ take k piece) ≡ Faulty f → fed (Rest held) piece ≡ fails f
 fed-bad held piece k f e =
     let bad : front_of (held ++ piece) ≡ Faulty f = ap front_of (sym (regrouped held piece k)) ∙ front-faulty_more (held ++ take k piece) (drop k piece) f e in

@@ -1,15 +1,14 @@
 -- A step of feeding and taking keeps the frames of the stream.
-use Rattle.std.proofs.Common.{◌≡◌, ℕ, ◌+◌, ◌-◌, ◌<◌, ◌≤◌, List, [], ◌++◌, length, take, drop, Option, Some, None, Result, Ok, Err, refl, sym, ap, subst, ◌∙◌, inl, inr, arith}
+use Rattle.std.proofs.Common.{◌≡◌, ℕ, ◌+◌, ◌-◌, ◌<◌, ◌≤◌, List, [], ◌++◌, length, take, drop, Result, Ok, Err, refl, sym, ap, subst, ◌∙◌, inl, inr, arith}
 use Rattle.std.proofs.lemmas.Bool.{cases_lt}
 use Rattle.std.proofs.lemmas.List.{length-append, append-nil, drop_all, drop-drop, drop_at, take_at, take-append-le, take-append-drop, take_all}
-use Rattle.std.specs.Prelude.{MatchOption}
 use Rattle.cc_meaning.specs.declared.fault.FrameFault.{FrameFault}
 use Rattle.cc_meaning.specs.declared.frame.Frame.{Frame}
 use Rattle.cc_meaning_nodes.specs.Frames.{Front, Partial, Whole, Faulty, front_of, Ending, Rest, Fails, ends, with_frame, frames_of, frames_from, IsPartial}
-use Rattle.cc_framing.specs.Reader.{fed, fed_by, standing, without_standing, whole_in, wanted_in, IsWithin, IsWithinBy, IsReading, with_one, Feeds, Advances, Holds}
+use Rattle.cc_framing.specs.Reader.{fed, fed_by, standing, without_standing, wanted_in, IsWithin, IsWithinBy, IsReading, with_one, Feeds, Advances, Holds}
 use Rattle.cc_meaning_nodes.proofs.Fronts.{front-whole, front-alone, front-whole_more}
 use Rattle.cc_framing.proofs.Wanted.{wanted_fits}
-use Rattle.cc_meaning_nodes.proofs.Streams.{frames-partial, frames-whole, frames-faulty}
+use Rattle.cc_meaning_nodes.proofs.Streams.{frames-whole, frames-faulty}
 
 drop-past : (xs ys : List ℕ) (n : ℕ) → length xs ≤ n → drop n (xs ++ ys) ≡ drop (n - length xs) ys
 drop-past xs ys n h =
@@ -89,10 +88,6 @@ pub progress : (e : Ending) (piece : List ℕ) (n : ℕ) → IsPartial e → 0 <
 progress (Rest held) piece n p h t = progress_by held piece n (front_of (held ++ piece)) (reading-partial (Rest held) p) p h refl t
 progress (Fails f) piece n p h t = absurd cc
 
-pub frames_from-nil : (e : Ending) → IsPartial e → frames_from e [] ≡ ends e
-frames_from-nil (Rest held) p = ap frames_of (append-nil held) ∙ frames-partial held p
-frames_from-nil (Fails f) p = refl
-
 -- a fault ends the frames
 pub fault_ends : (e : Ending) (piece : List ℕ) (f : FrameFault) → (fed e piece).took ≡ Err f → frames_from e piece ≡ record { frames = []; ending = (fed e piece).ending }
 fault_ends (Fails g) piece f t = refl
@@ -166,14 +161,3 @@ holds held piece (Ok n) old new h is p w =
 holds held piece (Err f) old new h is p w =
     let k : Feeds (Rest held) piece (Err f) new = subst (λ (e : Ending). Feeds e piece (Err f) new) is h in
     (k.0, λ known. (fed-faulty held piece f (k.1 known).0, (k.1 known).1 ∙ fault_is (Rest held) piece f (k.1 known).0))
-
-whole_or_none : (x : List ℕ) (F : Front) → front_of x ≡ F → IsWithinBy F (length x) → (o : Option Frame) → o ≡ whole_in F → MatchOption o (front_of x ≡ Partial) (λ m. front_of x ≡ Whole m (length x))
-whole_or_none x (Faulty f) e w o h = absurd w
-whole_or_none x Partial e w None h = e
-whole_or_none x Partial e w (Some m) h = absurd cc
-whole_or_none x (Whole k n) e w None h = absurd cc
-whole_or_none x (Whole k n) e w (Some m) h = let same : k ≡ m = cc in e ∙ ap (λ (j : Frame). Whole j n) same ∙ ap (Whole m) (sym w)
-
--- what was taken says what stood
-pub taken_or_none : (x : List ℕ) (o : Option Frame) → IsWithin x → o ≡ standing (Rest x) → MatchOption o (front_of x ≡ Partial) (λ m. front_of x ≡ Whole m (length x))
-taken_or_none x o w h = whole_or_none x (front_of x) refl w o h

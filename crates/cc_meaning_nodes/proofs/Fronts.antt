@@ -268,3 +268,15 @@ front-is_frame x m n e =
     let l = head-long x n w.head_is in
     let k = kind_low (get_or x 0 0) l.kind in
     subst IsFrame (sym w.frame_is) (record { low = k.0; high = k.1; short = omega (arith, length-take (size_of x) (drop 25 x), l.fits) })
+
+-- ---- what is known early
+
+pub front-bad_kind : (x : List ℕ) → 1 ≤ length x → is_kind (get_or x 0 0) ≡ false → front_of x ≡ Faulty BadKind
+unfolding front_of head_of
+front-bad_kind x some bad = rw (le-ltb (length x) 1 some, bad) refl
+
+pub front-too_long : (x : List ℕ) → 5 ≤ length x → is_kind (get_or x 0 0) ≡ true → 67108864 < size_of x → front_of x ≡ Faulty TooLong
+unfolding front_of
+front-too_long x five good big =
+    let h : head_of x ≡ Wrong TooLong = head-five x five ∙ rw (good, lt-ltb 67108864 (size_of x) big) refl in
+    ap (λ (h : Head). front_by h x) h

@@ -1,9 +1,12 @@
 -- The laws of the frames of a stream.
-use Rattle.std.proofs.Common.{◌≡◌, ℕ, zero, suc, ◌<◌, ◌≤◌, List, [], ◌++◌, length, drop, refl, sym, ap, subst, ◌∙◌, arith}
+use Rattle.std.proofs.Common.{true, false, ◌^◌, ◌∷◌, ◌≡◌, ℕ, zero, suc, ◌<◌, ◌≤◌, List, [], ◌++◌, length, drop, refl, sym, ap, subst, ◌∙◌, arith}
+use Rattle.std.specs.Int.{w32, to_be_bytes}
 use Rattle.std.proofs.lemmas.List.{append-nil, length-drop}
-use Rattle.cc_meaning_nodes.specs.Frames.{spelling, head_of, Front, Partial, Whole, Faulty, front_of, Ending, Rest, Fails, Frames, ends, with_frame, frames_of, frames_from, IsPartial}
-use Rattle.cc_meaning_nodes.specs.FrameLaws.{NothingMore, BeginsWithWhole, EndsPartly, IsReadAlone}
-use Rattle.cc_meaning_nodes.proofs.Fronts.{front-whole, front-not_memory, front-is_frame}
+use Rattle.std.proofs.lemmas.Nat.{from_be_bytes-to_be_bytes_4}
+use Rattle.cc_meaning.specs.declared.fault.FrameFault.TheVariants.{BadKind, TooLong}
+use Rattle.cc_meaning_nodes.specs.Frames.{size_of, is_kind, spelling, head_of, Front, Partial, Whole, Faulty, front_of, Ending, Rest, Fails, Frames, ends, with_frame, frames_of, frames_from, IsPartial}
+use Rattle.cc_meaning_nodes.specs.FrameLaws.{IsKnownEarly, NothingMore, BeginsWithWhole, EndsPartly, IsReadAlone}
+use Rattle.cc_meaning_nodes.proofs.Fronts.{front-bad_kind, front-too_long, front-whole, front-not_memory, front-is_frame}
 use Rattle.cc_meaning_nodes.proofs.Streams.{frames-partial, frames-whole, frames-faulty, whole_size}
 use Rattle.cc_meaning_nodes.proofs.Spelled.{frames-spelling}
 
@@ -42,3 +45,14 @@ ends_partly (Fails f) x p = p
 
 pub is_read_alone : IsReadAlone
 is_read_alone m h = ap frames_of (sym (append-nil (spelling m))) ∙ frames-spelling m [] h ∙ ap (with_frame m) (frames-partial [] front-nil)
+
+known_kind : (kind : ℕ) (more : List ℕ) → is_kind kind ≡ false → front_of (kind ∷ more) ≡ Faulty BadKind
+known_kind kind more bad = front-bad_kind (kind ∷ more) (omega arith) bad
+
+known_length : (kind size : ℕ) (more : List ℕ) → is_kind kind ≡ true → 67108864 < size → size < 2 ^ 32 → front_of (kind ∷ to_be_bytes w32 size ++ more) ≡ Faulty TooLong
+known_length kind size more good big fits =
+    let size-is : size_of (kind ∷ to_be_bytes w32 size ++ more) ≡ size = from_be_bytes-to_be_bytes_4 size fits in
+    front-too_long (kind ∷ to_be_bytes w32 size ++ more) (omega arith) good (omega arith)
+
+pub is_known_early : IsKnownEarly
+is_known_early = (known_kind, known_length)

@@ -1,8 +1,10 @@
 -- The laws of the frames of a stream.
-use Rattle.std.specs.Prelude.{◌≡◌, ◌⊎◌, ℕ, ◌≤◌, List, [], ◌∷◌, ◌++◌, length, drop}
+use Rattle.std.specs.Prelude.{◌≡◌, ◌⊎◌, ℕ, ◌^◌, ◌<◌, ◌≤◌, true, false, List, [], ◌∷◌, ◌++◌, length, drop}
+use Rattle.std.specs.Int.{w32, to_be_bytes}
 use Rattle.std.specs.List.{flat_map, AllByRecursion}
 use Rattle.cc_meaning.specs.declared.frame.Frame.{Frame}
-use Rattle.cc_meaning_nodes.specs.Frames.{IsFrame, spelling, Partial, Whole, front_of, Ending, Rest, Frames, ends, with_frame, with_frames, frames_of, frames_from, IsPartial}
+use Rattle.cc_meaning.specs.declared.fault.FrameFault.TheVariants.{BadKind, TooLong}
+use Rattle.cc_meaning_nodes.specs.Frames.{IsFrame, spelling, is_kind, Partial, Whole, Faulty, front_of, Ending, Rest, Frames, ends, with_frame, with_frames, frames_of, frames_from, IsPartial}
 use Rattle.cc_meaning_nodes.specs.FrameSpelling.{Spells, IsBytes}
 
 abbrev pub GoesOn : Type 0
@@ -17,6 +19,12 @@ BeginsWithWhole = (x y : List ℕ) (frame : Frame) (n : ℕ) → front_of x ≡ 
 
 abbrev pub FrontStays : Type 0
 FrontStays = (x y : List ℕ) → (front_of x ≡ Partial) ⊎ (front_of (x ++ y) ≡ front_of x)
+
+abbrev pub IsKnownEarly : Type 0
+IsKnownEarly =
+    ((kind : ℕ) (more : List ℕ) → is_kind kind ≡ false → front_of (kind ∷ more) ≡ Faulty BadKind)
+    × ((kind size : ℕ) (more : List ℕ) → is_kind kind ≡ true → 67108864 < size → size < 2 ^ 32 →
+        front_of (kind ∷ to_be_bytes w32 size ++ more) ≡ Faulty TooLong)
 
 abbrev pub EndsPartly : Type 0
 EndsPartly = (e : Ending) (x : List ℕ) → IsPartial e → IsPartial (frames_from e x).ending

@@ -1,6 +1,6 @@
 //! Laws of the frames of a stream.
 
-ghost use Rattle.cc_meaning_nodes.specs.FrameLaws.{GoesOn, NothingMore, BeginsWithWhole, FrontStays, EndsPartly, IsReadAgain, IsReadAlone, IsSpelled, IsOnlySpelling};
+ghost use Rattle.cc_meaning_nodes.specs.FrameLaws.{GoesOn, NothingMore, BeginsWithWhole, FrontStays, IsKnownEarly, EndsPartly, IsReadAgain, IsReadAlone, IsSpelled, IsOnlySpelling};
 
 /// The frames of a stream that goes on are those of its beginning, and those from where that ends.
 pub fn goes_on()
@@ -20,6 +20,11 @@ pub fn begins_with_whole()
 /// A whole frame or a fault at the front stays, whatever follows.
 pub fn front_stays()
     ensures { FrontStays }
+{}
+
+/// A wrong kind is known at the first byte, and a payload that is too long at the fifth, whatever follows.
+pub fn is_known_early()
+    ensures { IsKnownEarly }
 {}
 
 /// A stream ends with less than a frame, or at a fault of its bytes, which want of memory isn't.
