@@ -24,7 +24,7 @@ abbrev pub IsKnownEarly : Type 0
 IsKnownEarly =
     ((kind : ℕ) (more : List ℕ) → is_kind kind ≡ false → front_of (kind ∷ more) ≡ Faulty BadKind)
     × ((kind size : ℕ) (more : List ℕ) → is_kind kind ≡ true → 67108864 < size → size < 2 ^ 32 →
-        front_of (kind ∷ to_be_bytes w32 size ++ more) ≡ Faulty TooLong)
+    front_of (kind ∷ to_be_bytes w32 size ++ more) ≡ Faulty TooLong)
 
 abbrev pub EndsPartly : Type 0
 EndsPartly = (e : Ending) (x : List ℕ) → IsPartial e → IsPartial (frames_from e x).ending
