@@ -13,6 +13,7 @@ use cc_meaning_nodes::frame_laws;
 use std::alloc::Global;
 
 /// Feeds a whole piece, and takes each frame that comes whole. At a fault the rest of the piece is left.
+/// Where memory is wanting, it stopped somewhere within the piece, and the stream cannot go on.
 pub fn feed_all(
     reader: &mut FrameReader,
     frames: &mut List<Frame>,
