@@ -1,14 +1,13 @@
 -- A bound on turns that is large enough doesn't matter.
-use Rattle.std.proofs.Common.{◌≡◌, ℕ, zero, suc, ◌≤◌, List, [], ◌∷◌, length, Option, Some, None, refl, sym, ◌∙◌, subst, arith, slice_get}
+use Rattle.std.proofs.Common.{◌≡◌, ℕ, zero, suc, ◌≤◌, List, length, Option, Some, None, refl, sym, ◌∙◌, subst, arith, slice_get}
 use Rattle.cc_meaning.specs.declared.value.Value.{Value}
-use Rattle.cc_meaning.specs.declared.value.Object.{Object}
 use Rattle.cc_meaning.specs.declared.report.StopCause.TheVariants as cause
 use Rattle.cc_meaning.specs.declared.report.Event.TheVariants as event
 use Rattle.cc_meaning.specs.Words.{words_of, words_of_event}
-use Rattle.cc_meaning_run.specs.World.{Setting, World, Counters, Stack, Locals}
+use Rattle.cc_meaning_run.specs.World.{Setting, World, Stack, Locals}
 use Rattle.cc_meaning_run.specs.Acts.{Outcome, Next, Enter, Returns, Throws, Stops, Stuck, Act, Done, Make, Look, GetStatic, Tell, Reached, less_by, with_words, pay, with_object, with_event, found, noted, run_act}
-use Rattle.cc_meaning_run.specs.Instructions.{code_of, act_at}
-use Rattle.cc_meaning_run.specs.Eval.{End, Returned, Thrown, Stopped, Jammed, Ran, ran, Reply, Here, Answer, Hook, Go, locals_for, deeper, resume, body, replied, after, with_instructions, turn_in, turn, eval_with}
+use Rattle.cc_meaning_run.specs.Instructions.{act_at}
+use Rattle.cc_meaning_run.specs.Eval.{Returned, Thrown, Stopped, Jammed, Ran, ran, Reply, Here, Answer, Hook, Go, resume, body, replied, after, with_instructions, turn_in, turn, eval_with}
 use Rattle.cc_meaning_run.specs.Laws.{KeepsLeft, HookSpends, BoundFree}
 
 -- ---- no step gives instructions back

@@ -7,7 +7,7 @@ use Rattle.cc_meaning.specs.declared.report.StopCause.TheVariants as cause
 use Rattle.cc_meaning.specs.declared.report.Event.{Event}
 use Rattle.cc_meaning.specs.declared.report.Event.TheVariants as event
 use Rattle.cc_meaning.specs.Words.{words_of, words_of_event}
-use Rattle.cc_meaning_run.specs.World.{World, Counters, Locals}
+use Rattle.cc_meaning_run.specs.World.{World, Locals}
 
 -- Where an instruction leads: on in the method, into a method's body, to an end of the method, to a stop of the run. `Stuck` is an operand of the wrong kind.
 pub data Outcome : Type 0 where

@@ -1,5 +1,5 @@
 -- What a method does, to its end.
-use Rattle.std.specs.Prelude.{ℕ, zero, suc, ◌+◌, ◌-◌, List, [], ◌∷◌, ◌++◌, Option, Some, None, replicate, slice_get}
+use Rattle.std.specs.Prelude.{ℕ, zero, suc, ◌+◌, ◌-◌, List, [], ◌∷◌, ◌++◌, Option, Some, None, replicate}
 use Rattle.cc_meaning.specs.declared.value.Value.{Value}
 use Rattle.cc_meaning.specs.declared.value.Value.TheVariants as value
 use Rattle.cc_meaning.specs.declared.value.Cell.{Cell}
@@ -7,7 +7,7 @@ use Rattle.cc_meaning.specs.declared.value.Cell.TheVariants as cell
 use Rattle.cc_meaning.specs.declared.report.StopCause.{StopCause}
 use Rattle.cc_meaning.specs.declared.report.StopCause.TheVariants as cause
 use Rattle.cc_meaning.specs.declared.program.Code.{Code}
-use Rattle.cc_meaning_run.specs.World.{Setting, World, Counters, Stack, Locals}
+use Rattle.cc_meaning_run.specs.World.{Setting, World, Stack, Locals}
 use Rattle.cc_meaning_run.specs.Acts.{Outcome, Next, Enter, Returns, Throws, Stops, Stuck, Reached, run_act}
 use Rattle.cc_meaning_run.specs.Instructions.{code_of, act_at}
 

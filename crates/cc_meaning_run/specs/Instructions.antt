@@ -25,7 +25,7 @@ use Rattle.cc_meaning.specs.declared.program.Program.{Program}
 use Rattle.cc_meaning.specs.BuiltIn.{print_stream_name}
 use Rattle.cc_meaning.specs.Names.{class_name, member_name}
 use Rattle.cc_meaning_run.specs.World.{Locals}
-use Rattle.cc_meaning_run.specs.Acts.{Outcome, Next, Enter, Returns, Stuck, Act, Done, Make, Look, GetStatic, Tell}
+use Rattle.cc_meaning_run.specs.Acts.{Next, Enter, Returns, Stuck, Act, Done, Look, GetStatic, Tell}
 
 -- ---- registers
 

@@ -1,8 +1,7 @@
 -- The invocations of a run, in the order of their entries, kept by a hook that only looks on.
-use Rattle.std.specs.Prelude.{ℕ, zero, suc, ◌+◌, ◌-◌, ◌==◌, List, [], ◌∷◌, ◌++◌, length, Bool, if◌then◌else◌}
-use Rattle.cc_meaning.specs.declared.value.Value.{Value}
-use Rattle.cc_meaning_run.specs.World.{World, Stack}
-use Rattle.cc_meaning_run.specs.Eval.{Hook, Reply, Here}
+use Rattle.std.specs.Prelude.{ℕ, suc, ◌+◌, ◌-◌, ◌==◌, List, [], ◌∷◌, ◌++◌, length, if◌then◌else◌}
+use Rattle.cc_meaning_run.specs.World.{Stack}
+use Rattle.cc_meaning_run.specs.Eval.{Hook, Here}
 
 -- an invocation: its method, the place of the one that called it, the frames that stood at its entry, the instructions that it did itself,
 -- and its recorded calls in order

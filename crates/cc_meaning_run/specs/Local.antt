@@ -6,7 +6,6 @@ use Rattle.cc_meaning.specs.declared.value.Value.{Value}
 use Rattle.cc_meaning.specs.declared.value.Value.TheVariants as value
 use Rattle.cc_meaning.specs.declared.value.Object.{Object}
 use Rattle.cc_meaning.specs.declared.value.Object.TheVariants as object
-use Rattle.cc_meaning.specs.declared.report.StopCause.{StopCause}
 use Rattle.cc_meaning.specs.declared.report.Event.{Event}
 use Rattle.cc_meaning.specs.declared.report.Event.TheVariants as event
 use Rattle.cc_meaning.specs.declared.report.Ending.{Ending}
@@ -20,7 +19,7 @@ use Rattle.cc_meaning.specs.BuiltIn.{system_out_name}
 use Rattle.cc_meaning.specs.Kinds.{kind_of, zero_of}
 use Rattle.cc_meaning.specs.Lookup.{class_named}
 use Rattle.cc_meaning.specs.Names.{field_name}
-use Rattle.cc_meaning_run.specs.World.{Setting, World, Counters, Stack}
+use Rattle.cc_meaning_run.specs.World.{Setting, World}
 use Rattle.cc_meaning_run.specs.Acts.{Outcome, Returns, Stops, Act, Done, Make, Reached, run_act}
 use Rattle.cc_meaning_run.specs.Eval.{End, Returned, Thrown, Stopped, Jammed, Ran, ran, Hook, Go, body, eval_with}
 use Rattle.cc_meaning_run.specs.Invocations.{Invocation, Invocations, onlooker, entered}

@@ -10,5 +10,4 @@ ghost use Rattle.cc_meaning_run.specs.Laws.{HookSpends, BoundFree};
 #[tactic(auto, using(crate::proofs::Bounds::bound_free))]
 pub fn law_bound<T>()
     ensures { (hook : Hook T) (s : Setting) → HookSpends hook → BoundFree hook s }
-{
-}
+{}
