@@ -45,11 +45,7 @@ fn shelf_with(alloc: Global, file: &[u8], fails: &[u64]) -> Result<MemoryShelf, 
         name: Text::from_str(alloc, "a.dex")?,
         bytes: Bytes::from_slice(alloc, file)?,
     })?;
-    Ok(MemoryShelf::new(
-        alloc,
-        files,
-        CallList::from_slice(alloc, fails)?,
-    ))
+    Ok(MemoryShelf::new(alloc, files, CallList::from_slice(alloc, fails)?))
 }
 
 /// Runs the program on these words, cut at blanks, over a shelf with one file.
@@ -89,7 +85,10 @@ fn prints_the_sum(rt: HostRuntime) -> Result<(), Fail> {
 #[test]
 fn says_why_nothing_ran(rt: HostRuntime) -> Result<(), Fail> {
     let alloc = rt.alloc();
-    let unread = Failing { shelf: FIRST, ..CALM };
+    let unread = Failing {
+        shelf: FIRST,
+        ..CALM
+    };
     let rows: [(&str, Failing<'_>, u8, &str); 8] = [
         ("", CALM, 64, "fault 64 Usage\n"),
         ("run", CALM, 64, "fault 64 Usage\n"),
@@ -97,7 +96,12 @@ fn says_why_nothing_ran(rt: HostRuntime) -> Result<(), Fail> {
         ("run a.dex a.dex", CALM, 64, "fault 64 Usage\n"),
         ("run b.dex", CALM, 73, "fault 73 Absent b.dex\n"),
         ("run \u{e9}.dex", CALM, 73, "fault 73 Absent \\u00e9.dex\n"),
-        ("run \u{1f600}", CALM, 73, "fault 73 Absent \\ud83d\\ude00\n"),
+        (
+            "run \u{1f600}",
+            CALM,
+            73,
+            "fault 73 Absent \\ud83d\\ude00\n",
+        ),
         ("run a.dex", unread, 71, "fault 71 ReadFault a.dex\n"),
     ];
     for (line, failing, status, notes) in rows {
@@ -116,7 +120,15 @@ fn says_that_a_sink_failed(rt: HostRuntime) -> Result<(), Fail> {
     assert_eq!(rt; came.status, 72);
     assert!(rt; came.out.bytes().is_empty());
     assert!(rt; came.notes.bytes() == b"fault 72 WriteFault\n".as_slice());
-    let came = run(alloc, "run a.dex", &SAMPLE, Failing { notes: FIRST, ..CALM })?;
+    let came = run(
+        alloc,
+        "run a.dex",
+        &SAMPLE,
+        Failing {
+            notes: FIRST,
+            ..CALM
+        },
+    )?;
     assert_eq!(rt; came.status, 72);
     assert!(rt; came.out.bytes() == b"7\n".as_slice());
     assert!(rt; came.notes.bytes().is_empty());
@@ -178,7 +190,10 @@ fn judges_a_file_place_by_place(rt: HostRuntime) -> Result<(), Fail> {
         let came = run(alloc, "run a.dex", &changed(alloc, &[(at, byte)])?, CALM)?;
         let wanted = if out.is_some() { 0 } else { 80 };
         assert_eq!(rt; came.status, wanted, "{byte} at {at}");
-        assert!(rt; came.out.bytes() == out.unwrap_or("").as_bytes(), "{byte} at {at}");
+        assert!(rt;
+            came.out.bytes() == out.unwrap_or("").as_bytes(),
+            "{byte} at {at}"
+        );
     }
     Ok(())
 }

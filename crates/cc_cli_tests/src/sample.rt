@@ -2,14 +2,23 @@
 
 /// Places in the file that tests change.
 pub const CHECKSUM: usize = 8;
+
 pub const SIGNATURE: usize = 12;
+
 pub const FILE_SIZE: usize = 32;
+
 pub const HEADER_SIZE: usize = 36;
+
 pub const ENDIAN_TAG: usize = 40;
+
 pub const MAP: usize = 52;
+
 pub const TEXT_COUNT: usize = 56;
+
 pub const CLASS_COUNT: usize = 96;
+
 pub const CLASS: usize = 236;
+
 pub const CODE: usize = 268;
 
 /// The bytes of the file.

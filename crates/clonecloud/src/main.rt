@@ -40,7 +40,5 @@ fn main(rt: HostRuntime) -> ExitCode {
     let mut out = StreamSink::new(rt.stdout());
     let mut notes = StreamSink::new(rt.stderr());
     let mut link = CannedLink::new(alloc, Bytes::new(alloc), CannedEnd::End);
-    ExitCode::from(run_words(
-        alloc, &words, &mut shelf, &mut out, &mut notes, &mut link,
-    ))
+    ExitCode::from(run_words(alloc, &words, &mut shelf, &mut out, &mut notes, &mut link))
 }

@@ -1,4 +1,4 @@
-use Rattle.std.proofs.Common.{◌≡◌, length, rules, sym, ◌∙◌}
+use Rattle.std.proofs.Common.{sym, ◌∙◌}
 use Rattle.std.proofs.lemmas.Bool.{eqb-true}
 use Rattle.cc_plan.proofs.Writing.{wrote_nothing}
 use Rattle.cc_plan.proofs.carry.write_text.Goals as goal
