@@ -1,5 +1,6 @@
 pub mod Worked
 pub mod Running
+pub mod Staged
 pub mod Returns
 pub mod Once
 pub mod PlainOnce
