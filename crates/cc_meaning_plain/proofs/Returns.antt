@@ -1,5 +1,5 @@
 -- A plain file's run within the default limits returns, and prints what its instructions print.
-use Rattle.std.proofs.Common.{◌≡◌, ℕ, zero, suc, ◌+◌, ◌-◌, ◌*◌, ◌<◌, ◌≤◌, ℤ, pos, List, [], ◌∷◌, ◌++◌, length, replicate, Some, refl, ap, ◌∙◌, arith, slice_set}
+use Rattle.std.proofs.Common.{◌≡◌, ℕ, zero, suc, ◌+◌, ◌-◌, ◌*◌, ◌<◌, ◌≤◌, ℤ, pos, List, [], ◌∷◌, ◌++◌, length, replicate, refl, ap, arith, slice_set}
 use Rattle.cc_meaning.specs.declared.report.Ending.TheVariants as ending
 use Rattle.cc_meaning_run.specs.Acts.{less_by}
 use Rattle.cc_meaning_run.specs.Instructions.{line_of}
@@ -12,6 +12,7 @@ use Rattle.cc_meaning_plain.specs.Staged.{Stage, with_line, taking_one, printing
 use Rattle.cc_meaning_plain.specs.Laws.{default_limits, PlainReports, PlainReturns}
 use Rattle.cc_meaning_plain.proofs.Running.{Fits32, ConstantsFit, sum_fits, line_is_short, some_units}
 use Rattle.cc_meaning_plain.proofs.Staged.{constants_fit}
+use Rattle.cc_meaning_plain.proofs.Words.{less_some}
 
 -- ---- the numbers in the registers
 
@@ -38,12 +39,6 @@ fits_set (m ∷ ns) zero n f h = (f, h.1)
 fits_set (m ∷ ns) (suc r) n f h = (h.0, fits_set ns r n f h.1)
 
 -- ---- with enough instructions and words
-
-less_some : (n k : ℕ) → n ≤ k → less_by n k ≡ Some (k - n)
-unfolding less_by
-less_some zero k h = ap Some (omega arith)
-less_some (suc n) zero h = absurd (omega arith)
-less_some (suc n) (suc k) h = less_some n k (omega arith) ∙ ap Some (omega arith)
 
 -- it returns, and has printed this
 pub record ReturnsWith (text : List ℕ) (stage : Stage) : Type 0 where

@@ -80,7 +80,7 @@ comes_quietly : (w w' : World) (stage : Stage) (r r' : Ran Invocations) → r �
 comes_quietly w w' stage r r' e same f = comes_after w w' [] stage r r' e (ap output_of same ∙ sym (append-nil (output_of w.events))) (ap calls_of same) f
 
 -- where no instruction is left, it doesn't matter which come
-stage_spent : (ns : List ℤ) (rest : List PlainInsn) (words : ℕ) → stage_of ns rest 0 words ≡ ends_with (ending.Stopped cause.Budget) 0 words
+pub stage_spent : (ns : List ℤ) (rest : List PlainInsn) (words : ℕ) → stage_of ns rest 0 words ≡ ends_with (ending.Stopped cause.Budget) 0 words
 unfolding stage_of taking_one
 stage_spent ns [] words = refl
 stage_spent ns (SgetOut to ∷ rest) words = refl
