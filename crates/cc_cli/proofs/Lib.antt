@@ -1,4 +1,4 @@
-pub mod Printing
+pub mod Running
 pub mod Showing
 pub mod Planning
 pub mod Statuses

@@ -6,3 +6,4 @@ pub mod Ascii
 pub mod Code
 pub mod Uses
 pub mod Class
+pub mod Progress

@@ -1,5 +1,5 @@
 -- What `run FILE` comes to, before anything is written.
-use Rattle.std.specs.Prelude.{◌≡◌, ◌⊎◌, ℕ, ◌≤◌, List, [], ◌∷◌, length, Option, Some, None, if◌then◌else◌, codes, pos, replicate}
+use Rattle.std.specs.Prelude.{◌≡◌, ◌⊎◌, ℕ, ◌≤◌, List, [], ◌∷◌, length, Option, Some, None, if◌then◌else◌, codes}
 use Rattle.std.specs.Str.{bytes_eq}
 use Rattle.cc_meaning.specs.declared.report.Ending.TheVariants as ending
 use Rattle.cc_meaning.specs.declared.report.Report.{Report}
@@ -13,7 +13,6 @@ use Rattle.cc_meaning_plain.specs.Tables.{longest_file}
 use Rattle.cc_meaning_plain.specs.Plain.{IsPlain}
 use Rattle.cc_meaning_plain.specs.Program.{setting_of}
 use Rattle.cc_meaning_plain.specs.Laws.{default_limits}
-use Rattle.cc_meaning_plain.specs.Text.{text_of}
 use Rattle.cc_cli.specs.declared.fault.Fault.TheVariants as faults
 use Rattle.cc_cli.specs.Faults.{fault_plan}
 
@@ -38,10 +37,6 @@ pub record Returns (bytes : List ℕ) (report : Report) : Type 0 where
 -- what was printed goes to out
 abbrev pub ran_plan : Report → Plan
 ran_plan report = record { status = 0; out = report.out; notes = returned_line }
-
--- what a plain file prints, and the line that it returned
-abbrev pub printed_plan : Plain → Plan
-printed_plan plain = record { status = 0; out = text_of (replicate plain.registers (pos 0)) plain.insns; notes = returned_line }
 
 -- what the bytes of the file come to
 abbrev pub BytesPlan : List ℕ → List ℕ → Plan → Type 0

@@ -2,19 +2,28 @@
 
 ghost use Rattle.std.specs.Prelude.{◌≡◌, ◌⊎◌, IfOk, IfSome, string_bytes, option_map, map};
 ghost use Rattle.cc_outside.specs.Shelves.{Counts, Known, NeverFall};
-ghost use Rattle.cc_cli.specs.Plans.{file_named, BytesPlan, RunPlan, printed_plan};
+ghost use Rattle.cc_meaning_plain.specs.Laws.{default_limits};
+ghost use Rattle.cc_meaning_plain.specs.Staged.{plain_report};
+ghost use Rattle.cc_cli.specs.Plans.{file_named, BytesPlan, RunPlan, ran_plan};
 ghost use Rattle.cc_cli.specs.Runs.{CallPlan, WordsPlan};
 
 use crate::fault::Fault;
 use crate::plain;
 use cc_meaning::lists::Bytes;
-use cc_meaning_plain::{Plain, law_plain_returns};
+use cc_meaning::report::Limits;
+use cc_meaning_plain::{Plain, law_plain_reports, law_plain_returns};
 use cc_outside::{ReadEnd, Shelf};
 use cc_plan::Plan;
 use std::alloc::{AllocError, Global};
 
 /// The longest file that is read, in bytes.
 const LONGEST_FILE: u64 = 8_388_608;
+
+/// The limits of a run for which none are named.
+const DEFAULT_LIMITS: Limits = Limits {
+    instructions: 100_000_000,
+    words: 1_048_576,
+};
 
 /// The file in the words `run FILE`.
 fn file_named(words: &[String]) -> Option<&str>
@@ -26,13 +35,14 @@ fn file_named(words: &[String]) -> Option<&str>
     }
 }
 
-/// What a plain file prints, and the line that it returned.
+/// The output of a plain file's run within the default limits, and the line that it returned.
 fn ran_plan(alloc: Global, plain: &Plain) -> Result<Plan, AllocError>
-    ensures { IfOk result (λ plan. plan ≡ printed_plan plain.now) }
+    ensures { IfOk result (λ plan. plan ≡ ran_plan (plain_report plain.now default_limits)) }
 {
+    let report = plain::run(alloc, plain, DEFAULT_LIMITS)?;
     Ok(Plan {
         status: 0,
-        out: Bytes::from_vec(plain::printed(alloc, plain)?),
+        out: report.out,
         notes: Bytes::from_slice(alloc, b"end return\n")?,
     })
 }
@@ -41,6 +51,7 @@ fn ran_plan(alloc: Global, plain: &Plain) -> Result<Plan, AllocError>
 fn run_bytes(alloc: Global, name: &str, file: &[u8]) -> Result<Plan, AllocError>
     ensures { IfOk result (λ plan. BytesPlan name.now file.now plan) }
 {
+    law_plain_reports();
     law_plain_returns();
     match plain::read_plain(alloc, file)? {
         Some(plain) => ran_plan(alloc, &plain),

@@ -6,9 +6,9 @@ mod header;
 mod instructions;
 mod members;
 mod names;
-mod printing;
 mod reader;
+mod running;
 mod uses;
 
-pub use printing::printed;
 pub use reader::read_plain;
+pub use running::run;

@@ -1,5 +1,5 @@
--- The run of a plain file: it goes down its instructions, and returns.
-use Rattle.std.proofs.Common.{◌≡◌, ℕ, zero, suc, ◌+◌, ◌-◌, ◌*◌, ◌^◌, ◌<◌, ◌≤◌, ◌==◌, ℤ, Bool, true, false, List, [], ◌∷◌, ◌++◌, length, Option, Some, None, refl, sym, ap, ◌∙◌, subst, arith, slice_get, slice_set, find, nat_le, map, unwrap_or, encode_utf8_all}
+-- What one turn of a plain file's run does.
+use Rattle.std.proofs.Common.{◌≡◌, ℕ, zero, suc, ◌+◌, ◌^◌, ◌<◌, ◌≤◌, ◌==◌, ℤ, Bool, true, false, List, [], ◌∷◌, ◌++◌, length, Option, Some, None, refl, sym, ap, ◌∙◌, subst, arith, slice_get, slice_set, find, nat_le, map, unwrap_or, encode_utf8_all}
 use Rattle.std.specs.Int.{int_wrapping_add, w32}
 use Rattle.std.specs.Int.RustNames.{FitsSigned}
 use Rattle.std.specs.Fmt.{signed_decimal}
@@ -11,31 +11,30 @@ use Rattle.std.proofs.lemmas.Fmt.{length_signed_le, IsAscii-signed}
 use Rattle.std.proofs.lemmas.Str.{encodes-IsAscii, IsAscii-append}
 use Rattle.std.proofs.lemmas.Int.{wrapping_add_is, SFits-int_wrap}
 use Rattle.std.proofs.lemmas.Bool.Decides.{nat_tests}
-use Rattle.cc_meaning.specs.declared.value.Value.{Value}
 use Rattle.cc_meaning.specs.declared.value.Value.TheVariants as value
 use Rattle.cc_meaning.specs.declared.value.Cell.{Cell}
 use Rattle.cc_meaning.specs.declared.value.Cell.TheVariants as cell
 use Rattle.cc_meaning.specs.declared.value.Object.TheVariants as object
+use Rattle.cc_meaning.specs.declared.report.StopCause.TheVariants as cause
 use Rattle.cc_meaning.specs.declared.report.Event.{Event}
 use Rattle.cc_meaning.specs.declared.report.Event.TheVariants as event
 use Rattle.cc_meaning.specs.declared.program.Placed.{Placed}
 use Rattle.cc_meaning.specs.declared.instruction.Insn.TheVariants as insn
 use Rattle.cc_meaning.specs.BuiltIn.{print_stream_name}
-use Rattle.cc_meaning.specs.Words.{words_of_event}
 use Rattle.cc_meaning_run.specs.World.{Setting, World, Stack, Locals}
-use Rattle.cc_meaning_run.specs.Acts.{Outcome, Next, Returns, Act, Reached, less_by, with_words, pay, with_event, found, noted, run_act}
+use Rattle.cc_meaning_run.specs.Acts.{Outcome, Next, Returns, Stops, Act, Reached, less_by, with_words, pay, with_event, found, noted, run_act}
 use Rattle.cc_meaning_run.specs.Instructions.{on_cell, on_value, on_int, on_object, on_values, set_next, println_if, built_in, line_of, on_stream, print_line, call_built_in, call_kind, call, call_named, act_of, code_of_kind, code_of_method, code_of as code_in, placed_in, act_placed, act_at}
-use Rattle.cc_meaning_run.specs.Eval.{Returned, Ran, ran, after, with_instructions, turn_in, turn, eval_with}
-use Rattle.cc_meaning_run.specs.Invocations.{Invocations, charged, onlooker}
+use Rattle.cc_meaning_run.specs.Eval.{Stopped, ran, with_instructions, turn_in, turn, eval_with}
+use Rattle.cc_meaning_run.specs.Invocations.{Invocations, onlooker}
 use Rattle.cc_meaning_run.specs.Local.{utf8_of, output_of, calls_of}
 use Rattle.cc_meaning_plain.specs.declared.plain.PlainInsn.{PlainInsn}
 use Rattle.cc_meaning_plain.specs.declared.plain.PlainInsn.TheVariants.{SgetOut, Const4, AddInt2Addr, InvokePrintln}
 use Rattle.cc_meaning_plain.specs.declared.plain.Plain.{Plain}
 use Rattle.cc_meaning_plain.specs.declared.plain.Held.{Held}
 use Rattle.cc_meaning_plain.specs.declared.plain.Held.TheVariants.{Nothing, Number, Stream}
-use Rattle.cc_meaning_plain.specs.Code.{units_of, UsesWhatIsSet}
+use Rattle.cc_meaning_plain.specs.Code.{units_of}
 use Rattle.cc_meaning_plain.specs.Program.{insn_of, placed_from, program_of, setting_of}
-use Rattle.cc_meaning_plain.specs.Text.{number_at, text_of}
+use Rattle.cc_meaning_plain.specs.Text.{number_at}
 
 -- ---- the instruction at a place
 
@@ -45,7 +44,7 @@ units_before [] = 0
 units_before (i ∷ rest) = units_of i + units_before rest
 
 -- the instruction that stands first from an address on
-abbrev first_from : ℕ → List PlainInsn → Placed
+abbrev pub first_from : ℕ → List PlainInsn → Placed
 first_from at [] = record { at = at; units = 1; insn = insn.ReturnVoid }
 first_from at (i ∷ rest) = record { at = at; units = units_of i; insn = insn_of i }
 
@@ -70,7 +69,7 @@ find_later p x xs e = rw e refl
 abbrev is_at : ℕ → Placed → Bool
 is_at pc placed = placed.at == pc
 
-units_before-more : (done : List PlainInsn) (i : PlainInsn) → units_before (done ++ i ∷ []) ≡ units_before done + units_of i
+pub units_before-more : (done : List PlainInsn) (i : PlainInsn) → units_before (done ++ i ∷ []) ≡ units_before done + units_of i
 units_before-more [] i = omega arith
 units_before-more (x ∷ done) i = omega (arith, units_before-more done i)
 
@@ -103,17 +102,17 @@ pub data Fits : List ℤ → List Held → List Cell → Type 0 where
   fnil : Fits [] [] []
   fcons : {n : ℤ} {h : Held} {c : Cell} {ns : List ℤ} {hs : List Held} {cs : List Cell} → FitsCell n h c → Fits ns hs cs → Fits (n ∷ ns) (h ∷ hs) (c ∷ cs)
 
-set_number : {ns : List ℤ} {hs : List Held} {cs : List Cell} → Fits ns hs cs → (r : ℕ) (n : ℤ) → Fits32 n → Fits (slice_set ns r n) (slice_set hs r Number) (slice_set cs r (cell.Value (value.Int n)))
+pub set_number : {ns : List ℤ} {hs : List Held} {cs : List Cell} → Fits ns hs cs → (r : ℕ) (n : ℤ) → Fits32 n → Fits (slice_set ns r n) (slice_set hs r Number) (slice_set cs r (cell.Value (value.Int n)))
 set_number fnil r n f = fnil
 set_number (fcons c fs) zero n f = fcons (number f) fs
 set_number (fcons c fs) (suc r) n f = fcons c (set_number fs r n f)
 
-set_stream : {ns : List ℤ} {hs : List Held} {cs : List Cell} → Fits ns hs cs → (r : ℕ) → Fits ns (slice_set hs r Stream) (slice_set cs r (cell.Value (value.Obj (Some 0))))
+pub set_stream : {ns : List ℤ} {hs : List Held} {cs : List Cell} → Fits ns hs cs → (r : ℕ) → Fits ns (slice_set hs r Stream) (slice_set cs r (cell.Value (value.Obj (Some 0))))
 set_stream fnil r = fnil
 set_stream (fcons c fs) zero = fcons stream fs
 set_stream (fcons c fs) (suc r) = fcons c (set_stream fs r)
 
-abbrev HoldsNumber : List ℤ → List Cell → ℕ → Type 0
+abbrev pub HoldsNumber : List ℤ → List Cell → ℕ → Type 0
 HoldsNumber ns cs r = (slice_get cs r ≡ Some (cell.Value (value.Int (number_at ns r)))) × Fits32 (number_at ns r)
 
 some_of : {A : Type 0} {a b : A} → Some a ≡ Some b → a ≡ b
@@ -129,17 +128,17 @@ cell_stream nothing e = cc
 cell_stream (number f) e = cc
 cell_stream stream e = refl
 
-get_number : {ns : List ℤ} {hs : List Held} {cs : List Cell} → Fits ns hs cs → (r : ℕ) → slice_get hs r ≡ Some Number → HoldsNumber ns cs r
+pub get_number : {ns : List ℤ} {hs : List Held} {cs : List Cell} → Fits ns hs cs → (r : ℕ) → slice_get hs r ≡ Some Number → HoldsNumber ns cs r
 get_number fnil r e = cc
 get_number (fcons c fs) zero e = let h = cell_number c (some_of e) in (ap Some h.0, h.1)
 get_number (fcons c fs) (suc r) e = get_number fs r e
 
-get_stream : {ns : List ℤ} {hs : List Held} {cs : List Cell} → Fits ns hs cs → (r : ℕ) → slice_get hs r ≡ Some Stream → slice_get cs r ≡ Some (cell.Value (value.Obj (Some 0)))
+pub get_stream : {ns : List ℤ} {hs : List Held} {cs : List Cell} → Fits ns hs cs → (r : ℕ) → slice_get hs r ≡ Some Stream → slice_get cs r ≡ Some (cell.Value (value.Obj (Some 0)))
 get_stream fnil r e = cc
 get_stream (fcons c fs) zero e = ap Some (cell_stream c (some_of e))
 get_stream (fcons c fs) (suc r) e = get_stream fs r e
 
-sum_fits : (x y : ℤ) → Fits32 x → Fits32 y → Fits32 (int_wrapping_add w32 x y)
+pub sum_fits : (x y : ℤ) → Fits32 x → Fits32 y → Fits32 (int_wrapping_add w32 x y)
 sum_fits x y f g = subst (λ z. Fits32 z) (sym (wrapping_add_is w32 x y f g)) (SFits-int_wrap w32 _)
 
 -- ---- what is printed
@@ -148,7 +147,7 @@ small : (n : ℤ) → Fits32 n → mag n < 2 ^ 31
 small n f = f.sfits
 
 -- a line has at most twelve units
-line_is_short : (n : ℤ) → Fits32 n → length (line_of n) ≤ 12
+pub line_is_short : (n : ℤ) → Fits32 n → length (line_of n) ≤ 12
 unfolding line_of
 line_is_short n f =
     let m = small n f in
@@ -185,19 +184,19 @@ line_feed_is_ascii : IsAscii (10 ∷ [])
 line_feed_is_ascii zero = omega arith
 line_feed_is_ascii (suc i) = omega arith
 
-line_is_itself : (n : ℤ) → Fits32 n → utf8_of (line_of n) ≡ line_of n
+pub line_is_itself : (n : ℤ) → Fits32 n → utf8_of (line_of n) ≡ line_of n
 unfolding line_of
 line_is_itself n f =
     let m = small n f in
     text_is_itself (signed_decimal n ++ 10 ∷ []) (IsAscii-append (signed_decimal n) (10 ∷ []) (IsAscii-signed n (omega arith)) line_feed_is_ascii)
 
-output-append : (es : List Event) (units : List ℕ) → output_of (es ++ event.Print units ∷ []) ≡ output_of es ++ utf8_of units
+pub output-append : (es : List Event) (units : List ℕ) → output_of (es ++ event.Print units ∷ []) ≡ output_of es ++ utf8_of units
 unfolding output_of
 output-append [] units = append-nil (utf8_of units)
 output-append (event.Print us ∷ es) units = ap (λ l. utf8_of us ++ l) (output-append es units) ∙ sym (append_assoc (utf8_of us) (output_of es) (utf8_of units))
 output-append (event.Call m args answer ∷ es) units = output-append es units
 
-calls-append : (es : List Event) (units : List ℕ) → calls_of (es ++ event.Print units ∷ []) ≡ calls_of es
+pub calls-append : (es : List Event) (units : List ℕ) → calls_of (es ++ event.Print units ∷ []) ≡ calls_of es
 unfolding calls_of
 calls-append [] units = refl
 calls-append (event.Print us ∷ es) units = calls-append es units
@@ -215,51 +214,47 @@ ConstantsFit (InvokePrintln receiver from ∷ rest) = ConstantsFit rest
 
 -- ---- one instruction
 
-less_some : (n k : ℕ) → n ≤ k → less_by n k ≡ Some (k - n)
-unfolding less_by
-less_some zero k h = ap Some (omega arith)
-less_some (suc n) zero h = absurd (omega arith)
-less_some (suc n) (suc k) h = less_some n k (omega arith) ∙ ap Some (omega arith)
-
-abbrev next_with : ℕ → List Cell → Outcome
+abbrev pub next_with : ℕ → List Cell → Outcome
 next_with next cells = Next next (record { cells = cells; pending = None })
 
-abbrev led : Outcome → World → List ℕ → Reached
+abbrev pub led : Outcome → World → List ℕ → Reached
 led outcome w called = record { outcome = outcome; world = w; called = called }
-
-value_of : (locals : Locals) (r : ℕ) (v : Value) (k : Value → Act) → slice_get locals.cells r ≡ Some (cell.Value v) → on_value locals r k ≡ k v
-unfolding on_value on_cell
-value_of locals r v k e = rw e refl
 
 module _ (plain : Plain) where
   abbrev pub s : Setting
   s = setting_of plain
 
-  const_act : (next : ℕ) (locals : Locals) (to : ℕ) (v : ℤ) (w : World) → run_act (act_of (program_of plain) next locals (insn_of (Const4 to v))) w ≡ led (next_with next (slice_set locals.cells to (cell.Value (value.Int v)))) w []
+  pub const_act : (next : ℕ) (locals : Locals) (to : ℕ) (v : ℤ) (w : World) → run_act (act_of (program_of plain) next locals (insn_of (Const4 to v))) w ≡ led (next_with next (slice_set locals.cells to (cell.Value (value.Int v)))) w []
   unfolding act_of set_next run_act
   const_act next locals to v w = refl
 
-  out_act : (next : ℕ) (locals : Locals) (to : ℕ) (w : World) → slice_get w.statics 0 ≡ Some (value.Obj (Some 0)) →
+  pub out_act : (next : ℕ) (locals : Locals) (to : ℕ) (w : World) → slice_get w.statics 0 ≡ Some (value.Obj (Some 0)) →
       run_act (act_of (program_of plain) next locals (insn_of (SgetOut to))) w ≡ led (next_with next (slice_set locals.cells to (cell.Value (value.Obj (Some 0))))) w []
   unfolding act_of set_next run_act found
   out_act next locals to w e = rw e refl
 
-  sum_act : (next : ℕ) (locals : Locals) (to other : ℕ) (x y : ℤ) (w : World) → slice_get locals.cells to ≡ Some (cell.Value (value.Int x)) → slice_get locals.cells other ≡ Some (cell.Value (value.Int y)) →
+  pub sum_act : (next : ℕ) (locals : Locals) (to other : ℕ) (x y : ℤ) (w : World) → slice_get locals.cells to ≡ Some (cell.Value (value.Int x)) → slice_get locals.cells other ≡ Some (cell.Value (value.Int y)) →
       run_act (act_of (program_of plain) next locals (insn_of (AddInt2Addr to other))) w ≡ led (next_with next (slice_set locals.cells to (cell.Value (value.Int (int_wrapping_add w32 x y))))) w []
   unfolding act_of set_next run_act on_value on_cell on_int
   sum_act next locals to other x y w ex ey = rw (ex, ey) refl
 
   -- the world after a print
-  abbrev printed : World → List ℕ → World
-  printed w units = with_event (with_words w (w.counters.words - words_of_event (event.Print units))) (event.Print units)
+  abbrev pub printed : World → ℕ → List ℕ → World
+  printed w left units = with_event (with_words w left) (event.Print units)
 
-  print_act : (next : ℕ) (locals : Locals) (receiver from : ℕ) (n : ℤ) (w : World) → slice_get locals.cells receiver ≡ Some (cell.Value (value.Obj (Some 0))) → slice_get locals.cells from ≡ Some (cell.Value (value.Int n)) →
-      slice_get w.objects 0 ≡ Some object.Out → words_of_event (event.Print (line_of n)) ≤ w.counters.words →
-      run_act (act_of (program_of plain) next locals (insn_of (InvokePrintln receiver from))) w ≡ led (next_with next locals.cells) (printed w (line_of n)) (1 ∷ [])
+  -- where a print leads, by the words that are left after it
+  abbrev pub print_led : ℕ → List Cell → List ℕ → World → Option ℕ → Reached
+  print_led next cells line w None = led (Stops cause.Heap) w []
+  print_led next cells line w (Some left) = led (next_with next cells) (printed w left line) (1 ∷ [])
+
+  pub print_act : (next : ℕ) (locals : Locals) (receiver from : ℕ) (n : ℤ) (w : World) (paid : Option ℕ) → slice_get locals.cells receiver ≡ Some (cell.Value (value.Obj (Some 0))) → slice_get locals.cells from ≡ Some (cell.Value (value.Int n)) →
+      slice_get w.objects 0 ≡ Some object.Out → less_by (2 + length (line_of n)) w.counters.words ≡ paid →
+      run_act (act_of (program_of plain) next locals (insn_of (InvokePrintln receiver from))) w ≡ print_led next locals.cells (line_of n) w paid
   unfolding act_of on_values on_value on_cell call_named call call_kind call_built_in built_in println_if program_of print_line print_stream_name on_object on_stream on_int run_act found pay noted
-  print_act next locals receiver from n w es en eo le = rw (es, en, eo, less_some (words_of_event (event.Print (line_of n))) w.counters.words le) refl
+  print_act next locals receiver from n w None es en eo e = rw (es, en, eo, e) refl
+  print_act next locals receiver from n w (Some left) es en eo e = rw (es, en, eo, e) refl
 
-  return_act : (next : ℕ) (locals : Locals) (w : World) → run_act (act_of (program_of plain) next locals insn.ReturnVoid) w ≡ led (Returns None) w []
+  pub return_act : (next : ℕ) (locals : Locals) (w : World) → run_act (act_of (program_of plain) next locals insn.ReturnVoid) w ≡ led (Returns None) w []
   unfolding act_of run_act
   return_act next locals w = refl
 
@@ -269,6 +264,12 @@ module _ (plain : Plain) where
       eval_with onlooker s (suc n) 0 pc locals stack w list ≡ turn_in onlooker (eval_with onlooker s n) s 0 locals stack (run_act (act_at s.program 0 pc locals) (with_instructions w k)) list
   unfolding eval_with turn
   eval_step n k pc locals stack w list e = ap (λ (left : ℕ). turn onlooker (eval_with onlooker s n) s 0 pc locals stack left w list) e
+
+  -- where no instruction is left the run stops, whatever the bound
+  pub eval_spent : (n pc : ℕ) (locals : Locals) (stack : Stack) (w : World) (list : Invocations) → w.counters.instructions ≡ 0 → eval_with onlooker s n 0 pc locals stack w list ≡ ran (Stopped cause.Budget) w list
+  unfolding eval_with turn
+  eval_spent zero pc locals stack w list e = refl
+  eval_spent (suc n) pc locals stack w list e = ap (λ (left : ℕ). turn onlooker (eval_with onlooker s n) s 0 pc locals stack left w list) e
 
   act_first : (done rest : List PlainInsn) (pc : ℕ) (locals : Locals) → plain.insns ≡ done ++ rest → pc ≡ units_before done →
       act_at s.program 0 pc locals ≡ act_of s.program (pc + (first_from pc rest).units) locals (first_from pc rest).insn
@@ -280,108 +281,10 @@ module _ (plain : Plain) where
       first_act [] = refl
       first_act (i ∷ rest) = refl
 
-  turn_goes : (n k pc : ℕ) (rest done : List PlainInsn) (locals : Locals) (stack : Stack) (w : World) (list : Invocations) (r : Reached) → plain.insns ≡ done ++ rest → pc ≡ units_before done → w.counters.instructions ≡ suc k →
+  pub turn_goes : (n k pc : ℕ) (rest done : List PlainInsn) (locals : Locals) (stack : Stack) (w : World) (list : Invocations) (r : Reached) → plain.insns ≡ done ++ rest → pc ≡ units_before done → w.counters.instructions ≡ suc k →
       run_act (act_of s.program (pc + (first_from pc rest).units) locals (first_from pc rest).insn) (with_instructions w k) ≡ r →
       eval_with onlooker s (suc n) 0 pc locals stack w list ≡ turn_in onlooker (eval_with onlooker s n) s 0 locals stack r list
   turn_goes n k pc rest done locals stack w list r e at left did =
       eval_step n k pc locals stack w list left
       ∙ ap (λ (a : Act). turn_in onlooker (eval_with onlooker s n) s 0 locals stack (run_act a (with_instructions w k)) list) (act_first done rest pc locals e at)
       ∙ ap (λ (x : Reached). turn_in onlooker (eval_with onlooker s n) s 0 locals stack x list) did
-
-  -- ---- the whole run
-
-  pub record Ready (w : World) (rest : List PlainInsn) : Type 0 where
-    pub object_stands : slice_get w.objects 0 ≡ Some object.Out
-    pub static_stands : slice_get w.statics 0 ≡ Some (value.Obj (Some 0))
-    pub instructions : length rest < w.counters.instructions
-    pub words : 14 * length rest ≤ w.counters.words
-
-  pub record Finishes (w : World) (text : List ℕ) (r : Ran Invocations) : Type 0 where
-    pub world : World
-    pub list : Invocations
-    pub returned : r ≡ ran (Returned None) world list
-    pub output : output_of world.events ≡ output_of w.events ++ text
-    pub calls : calls_of world.events ≡ calls_of w.events
-
-  finish_from : (w w' : World) (line text : List ℕ) (r r' : Ran Invocations) → r ≡ r' → output_of w'.events ≡ output_of w.events ++ line → calls_of w'.events ≡ calls_of w.events → Finishes w' text r' → Finishes w (line ++ text) r
-  finish_from w w' line text r r' e o c f = record {
-    world = f.world;
-    list = f.list;
-    returned = e ∙ f.returned;
-    output = f.output ∙ ap (λ (front : List ℕ). front ++ text) o ∙ append_assoc (output_of w.events) line text;
-    calls = f.calls ∙ c;
-  }
-
-  -- where nothing is printed
-  finish_quietly : (w w' : World) (text : List ℕ) (r r' : Ran Invocations) → r ≡ r' → w'.events ≡ w.events → Finishes w' text r' → Finishes w text r
-  finish_quietly w w' text r r' e same f = finish_from w w' [] text r r' e (ap output_of same ∙ sym (append-nil (output_of w.events))) (ap calls_of same) f
-
-  one_before : (n : ℕ) → 0 < n → (k : ℕ) × (n ≡ suc k)
-  one_before zero h = absurd (omega arith)
-  one_before (suc k) h = (k, refl)
-
-  shifted : (done rest : List PlainInsn) (i : PlainInsn) → plain.insns ≡ done ++ (i ∷ rest) → plain.insns ≡ (done ++ i ∷ []) ++ rest
-  shifted done rest i e = e ∙ sym (append_assoc done (i ∷ []) rest)
-
-  -- an instruction was spent and nothing else has changed
-  ready_spent : (w : World) (k : ℕ) (i : PlainInsn) (rest : List PlainInsn) → w.counters.instructions ≡ suc k → Ready w (i ∷ rest) → Ready (with_instructions w k) rest
-  unfolding with_instructions
-  ready_spent w k i rest left r = let l = r.instructions in let m = r.words in record { object_stands = r.object_stands; static_stands = r.static_stands; instructions = omega arith; words = omega arith }
-
-  print_cost : (n : ℤ) → Fits32 n → words_of_event (event.Print (line_of n)) ≤ 14
-  unfolding line_of
-  print_cost n f = omega (arith, line_is_short n f)
-
-  ready_printed : (w : World) (k : ℕ) (i : PlainInsn) (rest : List PlainInsn) (units : List ℕ) → w.counters.instructions ≡ suc k → words_of_event (event.Print units) ≤ 14 → Ready w (i ∷ rest) → Ready (printed (with_instructions w k) units) rest
-  unfolding with_instructions with_words with_event
-  ready_printed w k i rest units left cost r = let l = r.instructions in let m = r.words in record { object_stands = r.object_stands; static_stands = r.static_stands; instructions = omega arith; words = omega arith }
-
-  -- what is evaluated from the instructions that are left
-  abbrev pub Goes : List PlainInsn → ℕ → ℕ → List ℤ → Locals → Stack → World → Invocations → Type 0
-  Goes rest n pc ns locals stack w list = Finishes w (text_of ns rest) (eval_with onlooker s n 0 pc locals stack w list)
-
-  pub runs : (rest done : List PlainInsn) (n pc : ℕ) (ns : List ℤ) (hs : List Held) (locals : Locals) (stack : Stack) (w : World) (list : Invocations) → plain.insns ≡ done ++ rest → pc ≡ units_before done →
-      Fits ns hs locals.cells → UsesWhatIsSet hs rest → ConstantsFit rest → Ready w rest → w.counters.instructions ≤ n → Goes rest n pc ns locals stack w list
-  unfolding turn_in after text_of with_instructions with_words with_event program_of setting_of charged onlooker
-  runs rest done zero pc ns hs locals stack w list e at fits uses consts ready le = let l = ready.instructions in absurd (omega arith)
-  runs [] done (suc n) pc ns hs locals stack w list e at fits uses consts ready le =
-      let p = one_before w.counters.instructions ready.instructions in
-      record {
-        world = with_instructions w p.0;
-        list = charged stack.depth [] list;
-        returned = turn_goes n p.0 pc [] done locals stack w list _ e at p.1 (return_act (pc + 1) locals (with_instructions w p.0));
-        output = sym (append-nil (output_of w.events));
-        calls = refl;
-      }
-  runs (SgetOut to ∷ rest) done (suc n) pc ns hs locals stack w list e at fits uses consts ready le =
-      let p = one_before w.counters.instructions (omega (arith, ready.instructions)) in
-      let w' = with_instructions w p.0 in
-      finish_quietly w w' (text_of ns rest) _ _ (turn_goes n p.0 pc (SgetOut to ∷ rest) done locals stack w list _ e at p.1 (out_act (pc + 2) locals to w' ready.static_stands)) refl
-      (runs rest (done ++ SgetOut to ∷ []) n (pc + 2) ns (slice_set hs to Stream) _ stack w' _ (shifted done rest (SgetOut to) e) (omega (arith, units_before-more done (SgetOut to)))
-      (set_stream fits to) uses consts (ready_spent w p.0 (SgetOut to) rest p.1 ready) (omega (arith, p.1)))
-  runs (Const4 to v ∷ rest) done (suc n) pc ns hs locals stack w list e at fits uses consts ready le =
-      let p = one_before w.counters.instructions (omega (arith, ready.instructions)) in
-      let w' = with_instructions w p.0 in
-      finish_quietly w w' _ _ _ (turn_goes n p.0 pc (Const4 to v ∷ rest) done locals stack w list _ e at p.1 (const_act (pc + 1) locals to v w')) refl
-      (runs rest (done ++ Const4 to v ∷ []) n (pc + 1) (slice_set ns to v) (slice_set hs to Number) _ stack w' _ (shifted done rest (Const4 to v) e) (omega (arith, units_before-more done (Const4 to v)))
-      (set_number fits to v consts.0) uses consts.1 (ready_spent w p.0 (Const4 to v) rest p.1 ready) (omega (arith, p.1)))
-  runs (AddInt2Addr to other ∷ rest) done (suc n) pc ns hs locals stack w list e at fits uses consts ready le =
-      let p = one_before w.counters.instructions (omega (arith, ready.instructions)) in
-      let w' = with_instructions w p.0 in
-      let x = get_number fits to uses.0 in
-      let y = get_number fits other uses.1 in
-      finish_quietly w w' _ _ _ (turn_goes n p.0 pc (AddInt2Addr to other ∷ rest) done locals stack w list _ e at p.1 (sum_act (pc + 1) locals to other _ _ w' x.0 y.0)) refl
-      (runs rest (done ++ AddInt2Addr to other ∷ []) n (pc + 1) _ (slice_set hs to Number) _ stack w' _ (shifted done rest (AddInt2Addr to other) e) (omega (arith, units_before-more done (AddInt2Addr to other)))
-      (set_number fits to _ (sum_fits _ _ x.1 y.1)) uses.2 consts (ready_spent w p.0 (AddInt2Addr to other) rest p.1 ready) (omega (arith, p.1)))
-  runs (InvokePrintln receiver from ∷ rest) done (suc n) pc ns hs locals stack w list e at fits uses consts ready le =
-      let p = one_before w.counters.instructions (omega (arith, ready.instructions)) in
-      let w1 = with_instructions w p.0 in
-      let x = get_number fits from uses.1 in
-      let line = line_of (number_at ns from) in
-      let cost = print_cost (number_at ns from) x.1 in
-      finish_from w (printed w1 line) line (text_of ns rest) _ _
-      (turn_goes n p.0 pc (InvokePrintln receiver from ∷ rest) done locals stack w list _ e at p.1 (print_act (pc + 3) locals receiver from _ w1 (get_stream fits receiver uses.0) x.0 ready.object_stands (omega (arith, ready.words, cost))))
-      (output-append w.events line ∙ ap (λ (units : List ℕ). output_of w.events ++ units) (line_is_itself (number_at ns from) x.1))
-      (calls-append w.events line)
-      (runs rest (done ++ InvokePrintln receiver from ∷ []) n (pc + 3) ns hs _ stack (printed w1 line) _ (shifted done rest (InvokePrintln receiver from) e) (omega (arith, units_before-more done (InvokePrintln receiver from)))
-      fits uses.2 consts (ready_printed w p.0 (InvokePrintln receiver from) rest line p.1 cost ready) (omega (arith, p.1)))

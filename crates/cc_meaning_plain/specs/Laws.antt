@@ -11,6 +11,7 @@ use Rattle.cc_meaning_plain.specs.Names.{TypeRow}
 use Rattle.cc_meaning_plain.specs.Plain.{SpellsNumbers, IsPlain}
 use Rattle.cc_meaning_plain.specs.Program.{setting_of}
 use Rattle.cc_meaning_plain.specs.Text.{text_of}
+use Rattle.cc_meaning_plain.specs.Staged.{plain_report}
 
 -- the limits of a run for which none are named
 abbrev pub default_limits : Limits
@@ -27,7 +28,12 @@ pub record Prints (plain : Plain) (text : List ℕ) (report : Report) : Type 0 w
 abbrev pub AreBytes : List ℕ → Type 0
 AreBytes file = (i : ℕ) → slice_index file i < 256
 
--- a plain file's run always returns, and prints what its instructions print
+-- a plain file's run within any limits has just this report
+abbrev pub PlainReports : Type 0
+PlainReports = (file : List ℕ) (plain : Plain) (limits : Limits) → AreBytes file → IsPlain file plain →
+    local (setting_of plain) [] limits ≡ Some (plain_report plain limits)
+
+-- a plain file's run within the default limits always returns, and prints what its instructions print
 abbrev pub PlainReturns : Type 0
 PlainReturns = (file : List ℕ) (plain : Plain) → AreBytes file → IsPlain file plain →
     (report : Report) × Prints plain (text_of (replicate plain.registers (pos 0)) plain.insns) report

@@ -4,5 +4,6 @@ pub mod Code
 pub mod Plain
 pub mod Program
 pub mod Text
+pub mod Staged
 pub mod Worked
 pub mod Laws

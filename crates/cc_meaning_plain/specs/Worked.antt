@@ -9,6 +9,7 @@ use Rattle.cc_meaning_run.specs.Local.{local, invocations}
 use Rattle.cc_meaning_plain.specs.declared.plain.PlainInsn.TheVariants.{SgetOut, Const4, AddInt2Addr, InvokePrintln}
 use Rattle.cc_meaning_plain.specs.declared.plain.Plain.{Plain}
 use Rattle.cc_meaning_plain.specs.Program.{setting_of}
+use Rattle.cc_meaning_plain.specs.Staged.{plain_report}
 
 abbrev pub sum_of_two : Plain
 sum_of_two = record {
@@ -32,6 +33,15 @@ pub record TakesSix : Type 0 where
 pub record TakesSixWords : Type 0 where
   pub five : local (setting_of sum_of_two) [] (limits 100 5) ≡ Some (report [] (ending.Stopped cause.Heap) 5 2)
   pub six : local (setting_of sum_of_two) [] (limits 100 6) ≡ Some (report (55 ∷ 10 ∷ []) ending.Returned 6 6)
+
+-- what its instructions come to says the same; below two words there is no array, and without an instruction only the array is made
+pub record ComesToSix : Type 0 where
+  pub no_instruction : plain_report sum_of_two (limits 0 100) ≡ report [] (ending.Stopped cause.Budget) 0 2
+  pub five_instructions : plain_report sum_of_two (limits 5 100) ≡ report (55 ∷ 10 ∷ []) (ending.Stopped cause.Budget) 5 6
+  pub six_instructions : plain_report sum_of_two (limits 6 100) ≡ report (55 ∷ 10 ∷ []) ending.Returned 6 6
+  pub one_word : plain_report sum_of_two (limits 100 1) ≡ report [] (ending.Stopped cause.Heap) 0 0
+  pub five_words : plain_report sum_of_two (limits 100 5) ≡ report [] (ending.Stopped cause.Heap) 5 2
+  pub six_words : plain_report sum_of_two (limits 100 6) ≡ report (55 ∷ 10 ∷ []) ending.Returned 6 6
 
 -- its one invocation is that of main, which records one call of `println`
 abbrev pub IsOneInvocation : Type 0

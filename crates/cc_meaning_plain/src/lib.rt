@@ -1,8 +1,8 @@
 //! Plain files: what the bytes of a file of one printing class spell, and the program that it is.
 #![tactic(auto)]
 
-ghost use Rattle.cc_meaning_plain.specs.Laws.{TypeOnce, NumbersOnce, InsnOnce, InsnsOnce, CodeOnce, PlainOnce, PlainReturns};
-ghost use Rattle.cc_meaning_plain.specs.Worked.{TakesSix, TakesSixWords, IsOneInvocation};
+ghost use Rattle.cc_meaning_plain.specs.Laws.{TypeOnce, NumbersOnce, InsnOnce, InsnsOnce, CodeOnce, PlainOnce, PlainReports, PlainReturns};
+ghost use Rattle.cc_meaning_plain.specs.Worked.{TakesSix, TakesSixWords, ComesToSix, IsOneInvocation};
 
 mod plain;
 mod table;
@@ -12,17 +12,25 @@ pub use plain::{Held, Plain, PlainInsn, PlainInsns};
 pub use table::Table;
 
 /// The meaning of a run, at a worked example: 3 and 4 are added, and the sum is printed.
-#[tactic(auto, using(crate::proofs::Worked::takes_six, crate::proofs::Worked::takes_six_words, crate::proofs::Worked::is_one_invocation))]
+#[tactic(auto, using(crate::proofs::Worked::takes_six, crate::proofs::Worked::takes_six_words, crate::proofs::Worked::comes_to_six, crate::proofs::Worked::is_one_invocation))]
 pub fn worked_example()
     ensures instructions { TakesSix }
     ensures words { TakesSixWords }
+    ensures report { ComesToSix }
     ensures invocations { IsOneInvocation }
+{}
+
+/// The run of a plain file within any limits has just the report that its instructions come to.
+pub fn law_plain_reports()
+    ensures { PlainReports }
 {}
 
 /// The run of a plain file always returns within the limits for which none are named, and prints what its instructions print.
 pub fn law_plain_returns()
     ensures { PlainReturns }
-{}
+{
+    law_plain_reports();
+}
 
 /// At a place stands one instruction at most.
 #[tactic(auto, using(crate::proofs::Once::insn_once))]

@@ -1,7 +1,7 @@
 use Rattle.std.proofs.Common.{◌≡◌, [], ◌∷◌, ◌++◌, rules, string_bytes}
 use Rattle.std.specs.Fmt.{signed_decimal}
-use Rattle.cc_cli.proofs.Printing.{push_line}
-use Rattle.cc_cli.proofs.plain.printing.put_line.Goals as goal
+use Rattle.cc_cli.proofs.Running.{push_line}
+use Rattle.cc_cli.proofs.plain.running.put_line.Goals as goal
 
 pub returns : goal.returns
 returns c =
