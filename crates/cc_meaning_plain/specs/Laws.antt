@@ -1,16 +1,28 @@
 -- The laws of plain files.
-use Rattle.std.specs.Prelude.{◌≡◌, ℕ, ◌<◌, pos, List, [], length, replicate, Some, slice_index}
+use Rattle.std.specs.Prelude.{◌≡◌, ◌↔◌, ℕ, ◌+◌, ◌<◌, ◌≤◌, ℤ, pos, List, [], ◌∷◌, length, replicate, Option, Some, None, slice_get, slice_index}
+use Rattle.std.specs.Int.{w32}
+use Rattle.std.specs.Int.RustNames.{FitsSigned}
 use Rattle.cc_meaning.specs.declared.report.Ending.TheVariants as ending
 use Rattle.cc_meaning.specs.declared.report.Report.{Report}
 use Rattle.cc_meaning.specs.declared.report.Limits.{Limits}
+use Rattle.cc_meaning.specs.declared.report.StopCause.TheVariants as cause
+use Rattle.cc_meaning.specs.declared.value.Value.TheVariants as value
+use Rattle.cc_meaning_run.specs.World.{World, Stack}
+use Rattle.cc_meaning_run.specs.Acts.{less_by}
+use Rattle.cc_meaning_run.specs.Eval.{Returned, Stopped, Ran, ran, Hook, body, with_instructions, eval_with, most_frames, most_registers}
 use Rattle.cc_meaning_run.specs.Local.{local}
+use Rattle.cc_meaning.specs.Order.{IsRising}
+use Rattle.cc_meaning_plain.specs.declared.plain.Member.{Member}
+use Rattle.cc_meaning_plain.specs.declared.plain.Last.{Last}
+use Rattle.cc_meaning_plain.specs.declared.plain.PlainCode.{PlainCode}
+use Rattle.cc_meaning_plain.specs.declared.plain.PlainFunction.{PlainFunction}
 use Rattle.cc_meaning_plain.specs.declared.plain.Plain.{Plain}
 use Rattle.cc_meaning_plain.specs.declared.plain.PlainInsn.{PlainInsn}
-use Rattle.cc_meaning_plain.specs.Code.{SpellsInsn, SpellsInsns, IsPlainCode}
+use Rattle.cc_meaning_plain.specs.Code.{Scope, IsOfMain, SpellsInsn, SpellsInsns, IsPlainCode}
 use Rattle.cc_meaning_plain.specs.Names.{TypeRow}
-use Rattle.cc_meaning_plain.specs.Plain.{SpellsNumbers, IsPlain}
-use Rattle.cc_meaning_plain.specs.Program.{setting_of}
-use Rattle.cc_meaning_plain.specs.Text.{text_of}
+use Rattle.cc_meaning_plain.specs.Plain.{SpellsClassData, IsPlain}
+use Rattle.cc_meaning_plain.specs.Program.{main_number, function_number, main_of, function_of, program_of, setting_of}
+use Rattle.cc_meaning_plain.specs.Text.{text_of, value_of, instructions_of}
 use Rattle.cc_meaning_plain.specs.Staged.{plain_report}
 
 -- the limits of a run for which none are named
@@ -36,31 +48,47 @@ PlainReports = (file : List ℕ) (plain : Plain) (limits : Limits) → AreBytes 
 -- a plain file's run within the default limits always returns, and prints what its instructions print
 abbrev pub PlainReturns : Type 0
 PlainReturns = (file : List ℕ) (plain : Plain) → AreBytes file → IsPlain file plain →
-    (report : Report) × Prints plain (text_of (replicate plain.registers (pos 0)) plain.insns) report
+    (report : Report) × Prints plain (text_of plain.functions (replicate plain.main.registers (pos 0)) plain.main.insns) report
 
 -- a row of types has one descriptor at most
 abbrev pub TypeOnce : Type 0
 TypeOnce = (file : List ℕ) (row : ℕ) (first second : List ℕ) → TypeRow file row first → TypeRow file row second → first ≡ second
 
--- at a place stand so many numbers in one way at most
-abbrev pub NumbersOnce : Type 0
-NumbersOnce = (file : List ℕ) (at : ℕ) (first second : List ℕ) → length first ≡ length second →
-    SpellsNumbers file at first → SpellsNumbers file at second → first ≡ second
+-- at a place stands the data of a class in one way at most
+abbrev pub DataOnce : Type 0
+DataOnce = (file : List ℕ) (at : ℕ) (first second : List Member) → SpellsClassData file at first → SpellsClassData file at second → first ≡ second
 
 -- a file is plain in one way at most
 abbrev pub PlainOnce : Type 0
 PlainOnce = (file : List ℕ) (first second : Plain) → IsPlain file first → IsPlain file second → first ≡ second
 
--- at a place stands one instruction at most
+-- at a place stands one instruction at most, where no two functions have one name
 abbrev pub InsnOnce : Type 0
-InsnOnce = (file : List ℕ) (registers at : ℕ) (first second : PlainInsn) → SpellsInsn file registers at first → SpellsInsn file registers at second → first ≡ second
+InsnOnce = (file : List ℕ) (scope : Scope) (last : Last) (registers at : ℕ) (first second : PlainInsn) → IsRising scope.functions →
+    SpellsInsn file scope last registers at first → SpellsInsn file scope last registers at second → first ≡ second
 
--- in so many units stands one list of instructions at most
-abbrev pub InsnsOnce : Type 0
-InsnsOnce = (file : List ℕ) (registers at count : ℕ) (first second : List PlainInsn) →
-    SpellsInsns file registers at count first → SpellsInsns file registers at count second → first ≡ second
-
--- at a place stands one code item of a plain main at most
+-- at a place stands one code item of `main` at most, and one of a function
 abbrev pub CodeOnce : Type 0
-CodeOnce = (file : List ℕ) (at registers1 registers2 : ℕ) (insns1 insns2 : List PlainInsn) →
-    IsPlainCode file at registers1 insns1 → IsPlainCode file at registers2 insns2 → (registers1 ≡ registers2) × (insns1 ≡ insns2)
+CodeOnce = (file : List ℕ) (scope : Scope) (at : ℕ) (first second : PlainCode) → IsRising scope.functions → (IsOfMain first.last ↔ IsOfMain second.last) →
+    IsPlainCode file scope at first → IsPlainCode file scope at second → first ≡ second
+
+-- ---- a function by itself
+
+-- what evaluating a function's body comes to, where so many instructions are left behind it, or too few stand
+abbrev pub function_ran : {T : Type 0} → PlainCode → ℤ → World → Option ℕ → T → Ran T
+function_ran code number w None t = ran (Stopped cause.Budget) (with_instructions w 0) t
+function_ran code number w (Some left) t = ran (Returned (Some (value.Int (value_of code number)))) (with_instructions w left) t
+
+-- A function of a plain file that finds room for its frame gives its value, and changes nothing in the world but the instructions left; where these are too
+-- few it stops. So it is whatever the hook, which a function doesn't ask, and any bound that is large enough.
+abbrev pub FunctionRuns : Type 0
+FunctionRuns = {T : Type 0} (hook : Hook T) (file : List ℕ) (plain : Plain) (i : ℕ) (f : PlainFunction) → AreBytes file → IsPlain file plain →
+    slice_get plain.functions i ≡ Some f → (bound : ℕ) (number : ℤ) (stack : Stack) (w : World) (t : T) → FitsSigned w32 number → w.counters.instructions ≤ bound →
+    stack.depth < most_frames → stack.registers + f.code.registers ≤ most_registers →
+    (after : T) × (body (eval_with hook (setting_of plain) bound) (setting_of plain) (function_number plain i) (value.Int number ∷ []) stack w t
+    ≡ function_ran f.code number w (less_by (instructions_of f.code) w.counters.instructions) after)
+
+-- the numbers of a plain file's methods in its program
+pub record NumbersMethods (plain : Plain) : Type 0 where
+  pub main : slice_get (program_of plain).methods (main_number plain) ≡ Some (main_of plain)
+  pub functions : (i : ℕ) (f : PlainFunction) → slice_get plain.functions i ≡ Some f → slice_get (program_of plain).methods (function_number plain i) ≡ Some (function_of plain f)

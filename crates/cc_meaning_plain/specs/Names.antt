@@ -1,5 +1,5 @@
 -- What the rows of a file name: texts, types, fields and methods, each row at its own offset.
-use Rattle.std.specs.Prelude.{◌≡◌, ◌≢◌, ℕ, ◌+◌, List, codes}
+use Rattle.std.specs.Prelude.{◌≡◌, ◌≢◌, ℕ, ◌+◌, List, ◌++◌, codes}
 use Rattle.cc_meaning_file.specs.Numbers.{u16_at, u32_at, Within}
 use Rattle.cc_meaning_file.specs.Texts.{SpellsText}
 use Rattle.cc_meaning_plain.specs.declared.table.Table.TheVariants.{Texts, Types, Prototypes, Fields, Methods}
@@ -50,3 +50,9 @@ IsPrintln file row = MethodRow file row (codes "Ljava/io/PrintStream;") (codes "
 
 abbrev pub IsMain : List ℕ → List ℕ → ℕ → Type 0
 IsMain file class row = MethodRow file row class (codes "V") (codes "[Ljava/lang/String;") (codes "main")
+
+-- a row of methods is of that class, takes an int and gives one, and is named so with its types
+pub record IsFunction (file class : List ℕ) (row : ℕ) (name : List ℕ) : Type 0 where
+  pub bare : List ℕ
+  pub method : MethodRow file row class (codes "I") (codes "I") bare
+  pub whole : name ≡ bare ++ codes "(I)I"

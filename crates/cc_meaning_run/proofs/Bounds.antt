@@ -1,13 +1,14 @@
 -- A bound on turns that is large enough doesn't matter.
-use Rattle.std.proofs.Common.{◌≡◌, ℕ, zero, suc, ◌≤◌, List, length, Option, Some, None, refl, sym, ◌∙◌, subst, arith, slice_get}
+use Rattle.std.proofs.Common.{◌≡◌, ℕ, zero, suc, ◌≤◌, Bool, true, false, List, length, Option, Some, None, refl, sym, ◌∙◌, subst, arith, slice_get}
 use Rattle.cc_meaning.specs.declared.value.Value.{Value}
 use Rattle.cc_meaning.specs.declared.report.StopCause.TheVariants as cause
 use Rattle.cc_meaning.specs.declared.report.Event.TheVariants as event
 use Rattle.cc_meaning.specs.Words.{words_of, words_of_event}
 use Rattle.cc_meaning_run.specs.World.{Setting, World, Stack, Locals}
-use Rattle.cc_meaning_run.specs.Acts.{Outcome, Next, Enter, Returns, Throws, Stops, Stuck, Act, Done, Make, Look, GetStatic, Tell, Reached, less_by, with_words, pay, with_object, with_event, found, noted, run_act}
-use Rattle.cc_meaning_run.specs.Instructions.{act_at}
-use Rattle.cc_meaning_run.specs.Eval.{Returned, Thrown, Stopped, Jammed, Ran, ran, Reply, Here, Answer, Hook, Go, resume, body, replied, after, with_instructions, turn_in, turn, eval_with}
+use Rattle.cc_meaning_run.specs.Acts.{Outcome, Next, Enter, Returns, Throws, Stops, Stuck, Act, Done, Make, Look, GetStatic, GetStatus, Tell, Reached, less_by, with_words, pay, with_object, with_event, found, noted, run_act}
+use Rattle.cc_meaning.specs.BuiltIn.{stack_overflow_error_name}
+use Rattle.cc_meaning_run.specs.Instructions.{throw_new, code_of, act_at}
+use Rattle.cc_meaning_run.specs.Eval.{Returned, Thrown, Stopped, Jammed, Ran, ran, Reply, Here, Answer, Hook, Go, resume, has_room, overflowed_by, overflowed, body_if, body, replied, after, with_instructions, turn_in, turn, eval_with}
 use Rattle.cc_meaning_run.specs.Laws.{KeepsLeft, HookSpends, BoundFree}
 
 -- ---- no step gives instructions back
@@ -31,6 +32,7 @@ run_within n (Done o) w h = h
 run_within n (Make o k) w h = pay_within n (less_by (words_of o) w.counters.words) w _ h (λ w' h'. run_within n (k (length w'.objects)) (with_object w' o) h')
 run_within n (Look a k) w h = found_within n (slice_get w.objects a) w _ h (λ o. run_within n (k o) w h)
 run_within n (GetStatic i k) w h = found_within n (slice_get w.statics i) w _ h (λ v. run_within n (k v) w h)
+run_within n (GetStatus c k) w h = found_within n (slice_get w.counters.statuses c) w _ h (λ status. run_within n (k status) w h)
 run_within n (Tell m units k) w h = pay_within n (less_by (words_of_event (event.Print units)) w.counters.words) w _ h (λ w' h'. run_within n k (with_event w' (event.Print units)) h')
 
 -- ---- two ways to go on that agree below a bound
@@ -61,9 +63,25 @@ module _ {T : Type 0} (hook : Hook T) (spends : HookSpends hook) (s : Setting) w
         cases (ran (Stopped c) w t) le = (refl, le)
         cases (ran Jammed w t) le = (refl, le)
 
+    overflowed_same : (o : Outcome) (w : World) (t : T) → Within n w → Same n (overflowed_by o w t) (overflowed_by o w t)
+    unfolding overflowed_by
+    overflowed_same (Next pc' locals') w t le = (refl, le)
+    overflowed_same (Enter callee args next) w t le = (refl, le)
+    overflowed_same (Returns v) w t le = (refl, le)
+    overflowed_same (Throws a) w t le = (refl, le)
+    overflowed_same (Stops c) w t le = (refl, le)
+    overflowed_same Stuck w t le = (refl, le)
+
+    body_same : (room : Bool) (callee : ℕ) (args : List Value) (stack : Stack) (w : World) (t : T) → Within n w → Same n (body_if room go1 s callee args stack w t) (body_if room go2 s callee args stack w t)
+    unfolding body_if overflowed Agree
+    body_same true callee args stack w t le = ih callee 0 _ _ w t le
+    body_same false callee args stack w t le =
+        let r = run_act (throw_new s.program stack_overflow_error_name) w in
+        overflowed_same r.outcome r.world t (run_within n (throw_new s.program stack_overflow_error_name) w le)
+
     replied_same : (callee : ℕ) (args : List Value) (stack : Stack) (w : World) (x : Reply T) → Within n w → KeepsLeft n x → Same n (replied go1 s callee args stack w x) (replied go2 s callee args stack w x)
-    unfolding replied body Agree
-    replied_same callee args stack w (Here t) le h = ih callee 0 _ _ w t le
+    unfolding replied body
+    replied_same callee args stack w (Here t) le h = body_same (has_room (code_of s.program callee) stack) callee args stack w t le
     replied_same callee args stack w (Answer e w' t) le h = (refl, h)
 
     after_same : (m : ℕ) (locals : Locals) (stack : Stack) (o : Outcome) (w : World) (t : T) → Within n w → Same n (after hook go1 s m locals stack o w t) (after hook go2 s m locals stack o w t)

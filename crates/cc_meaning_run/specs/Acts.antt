@@ -24,6 +24,7 @@ pub data Act : Type 0 where
   Make : Object → (ℕ → Act) → Act
   Look : (object : ℕ) → (Object → Act) → Act
   GetStatic : (field : ℕ) → (Value → Act) → Act
+  GetStatus : (class : ℕ) → (ℕ → Act) → Act
   Tell : (method : ℕ) → List ℕ → Act → Act
 
 -- where the steps led, the world after them, and the methods whose calls they recorded
@@ -69,4 +70,5 @@ run_act (Done o) w = record { outcome = o; world = w; called = [] }
 run_act (Make o k) w = pay (less_by (words_of o) w.counters.words) w (λ w'. run_act (k (length w'.objects)) (with_object w' o))
 run_act (Look a k) w = found (slice_get w.objects a) w (λ o. run_act (k o) w)
 run_act (GetStatic i k) w = found (slice_get w.statics i) w (λ v. run_act (k v) w)
+run_act (GetStatus c k) w = found (slice_get w.counters.statuses c) w (λ status. run_act (k status) w)
 run_act (Tell m units k) w = pay (less_by (words_of_event (event.Print units)) w.counters.words) w (λ w'. noted m (run_act k (with_event w' (event.Print units))))

@@ -1,5 +1,5 @@
 -- What a method does, to its end.
-use Rattle.std.specs.Prelude.{ℕ, zero, suc, ◌+◌, ◌-◌, List, [], ◌∷◌, ◌++◌, Option, Some, None, replicate}
+use Rattle.std.specs.Prelude.{ℕ, zero, suc, ◌+◌, ◌-◌, Bool, true, false, ◌&&◌, nat_lt, nat_le, List, [], ◌∷◌, ◌++◌, Option, Some, None, replicate}
 use Rattle.cc_meaning.specs.declared.value.Value.{Value}
 use Rattle.cc_meaning.specs.declared.value.Value.TheVariants as value
 use Rattle.cc_meaning.specs.declared.value.Cell.{Cell}
@@ -7,9 +7,10 @@ use Rattle.cc_meaning.specs.declared.value.Cell.TheVariants as cell
 use Rattle.cc_meaning.specs.declared.report.StopCause.{StopCause}
 use Rattle.cc_meaning.specs.declared.report.StopCause.TheVariants as cause
 use Rattle.cc_meaning.specs.declared.program.Code.{Code}
+use Rattle.cc_meaning.specs.BuiltIn.{stack_overflow_error_name}
 use Rattle.cc_meaning_run.specs.World.{Setting, World, Stack, Locals}
 use Rattle.cc_meaning_run.specs.Acts.{Outcome, Next, Enter, Returns, Throws, Stops, Stuck, Reached, run_act}
-use Rattle.cc_meaning_run.specs.Instructions.{code_of, act_at}
+use Rattle.cc_meaning_run.specs.Instructions.{throw_new, code_of, act_at}
 
 -- how a method ends; `Jammed` is an operand of the wrong kind
 pub data End : Type 0 where
@@ -62,6 +63,16 @@ locals_for code args = record { cells = replicate (unset_in code) cell.Unset ++ 
 unfoldable pub deeper : Option Code → Stack → Stack
 deeper code stack = record { depth = suc stack.depth; registers = stack.registers + registers_in code }
 
+-- the most frames that stand, and the most registers that they have together
+abbrev pub most_frames : ℕ
+most_frames = 1024
+
+abbrev pub most_registers : ℕ
+most_registers = 65536
+
+unfoldable pub has_room : Option Code → Stack → Bool
+has_room code stack = nat_lt stack.depth most_frames && nat_le (stack.registers + registers_in code) most_registers
+
 -- ---- a turn
 
 -- the end of a call is the caller's to go on from
@@ -71,8 +82,21 @@ resume go m next locals stack (ran (Thrown a) w t) = ran (Thrown a) w t
 resume go m next locals stack (ran (Stopped c) w t) = ran (Stopped c) w t
 resume go m next locals stack (ran Jammed w t) = ran Jammed w t
 
+-- a method that finds no room for its frame throws at its entry, and does no instruction
+unfoldable pub overflowed_by : {T : Type 0} → Outcome → World → T → Ran T
+overflowed_by (Throws a) w t = ran (Thrown a) w t
+overflowed_by (Stops c) w t = ran (Stopped c) w t
+overflowed_by _ w t = ran Jammed w t
+
+unfoldable pub overflowed : {T : Type 0} → Reached → T → Ran T
+overflowed r t = overflowed_by r.outcome r.world t
+
+unfoldable pub body_if : {T : Type 0} → Bool → Go T → Setting → ℕ → List Value → Stack → World → T → Ran T
+body_if true go s m args stack w t = go m 0 (locals_for (code_of s.program m) args) (deeper (code_of s.program m) stack) w t
+body_if false go s m args stack w t = overflowed (run_act (throw_new s.program stack_overflow_error_name) w) t
+
 unfoldable pub body : {T : Type 0} → Go T → Setting → ℕ → List Value → Stack → World → T → Ran T
-body go s m args stack w t = go m 0 (locals_for (code_of s.program m) args) (deeper (code_of s.program m) stack) w t
+body go s m args stack w t = body_if (has_room (code_of s.program m) stack) go s m args stack w t
 
 unfoldable pub replied : {T : Type 0} → Go T → Setting → ℕ → List Value → Stack → World → Reply T → Ran T
 replied go s m args stack w (Here t) = body go s m args stack w t

@@ -1,5 +1,5 @@
 -- What each instruction does.
-use Rattle.std.specs.Prelude.{ℕ, ◌+◌, ℤ, List, [], ◌∷◌, ◌++◌, Option, Some, None, Bool, true, false, ◌&&◌, ◌==◌, slice_get, slice_set, find, codes}
+use Rattle.std.specs.Prelude.{ℕ, ◌+◌, ℤ, List, [], ◌∷◌, ◌++◌, Option, Some, None, Bool, true, false, ◌&&◌, ◌==◌, nat_lt, if◌then◌else◌, slice_get, slice_set, find, codes}
 use Rattle.std.specs.Str.{bytes_eq}
 use Rattle.std.specs.Fmt.{signed_decimal}
 use Rattle.std.specs.Int.{int_wrapping_add, w32}
@@ -23,9 +23,10 @@ use Rattle.cc_meaning.specs.declared.program.MethodKind.TheVariants as kinds
 use Rattle.cc_meaning.specs.declared.program.Method.{Method}
 use Rattle.cc_meaning.specs.declared.program.Program.{Program}
 use Rattle.cc_meaning.specs.BuiltIn.{print_stream_name}
+use Rattle.cc_meaning.specs.Lookup.{class_named}
 use Rattle.cc_meaning.specs.Names.{class_name, member_name}
 use Rattle.cc_meaning_run.specs.World.{Locals}
-use Rattle.cc_meaning_run.specs.Acts.{Next, Enter, Returns, Stuck, Act, Done, Look, GetStatic, Tell}
+use Rattle.cc_meaning_run.specs.Acts.{Next, Enter, Returns, Throws, Stuck, Act, Done, Make, Look, GetStatic, GetStatus, Tell}
 
 -- ---- registers
 
@@ -55,9 +56,24 @@ unfoldable pub on_values : Locals → List ℕ → (List Value → Act) → Act
 on_values locals [] k = k []
 on_values locals (r ∷ rs) k = on_value locals r (λ v. on_values locals rs (λ vs. k (v ∷ vs)))
 
+-- goes on with what the instruction before left
+unfoldable pub on_pending : Option Value → (Value → Act) → Act
+on_pending None k = Done Stuck
+on_pending (Some v) k = k v
+
 -- a value is put into a register, and what was pending is dropped
 unfoldable pub set_next : ℕ → Locals → ℕ → Value → Act
 set_next next locals to v = Done (Next next (record { cells = slice_set locals.cells to (cell.Value v); pending = None }))
+
+-- ---- exceptions
+
+unfoldable pub throw_of : Option ℕ → Act
+throw_of None = Done Stuck
+throw_of (Some class) = Make (object.Instance class (value.Obj None ∷ [])) (λ a. Done (Throws a))
+
+-- a new exception of the class of this name, without a message, is thrown
+unfoldable pub throw_new : Program → List ℕ → Act
+throw_new p name = throw_of (class_named name p)
 
 -- ---- built-in methods
 
@@ -103,15 +119,35 @@ unfoldable pub call_named : Program → MethodRef → ℕ → Locals → List Va
 call_named p (ref.Row row) next locals args = Done Stuck
 call_named p (ref.Known class m) next locals args = call p (slice_get p.methods m) m next locals args
 
+-- A class that is started, or is being started, needs no start. The start of a class by an instruction comes with the files of several classes.
+unfoldable pub if_started : ℕ → Act → Act
+if_started status act = if nat_lt 0 status && nat_lt status 3 then act else Done Stuck
+
+unfoldable pub enter_static : Method → MethodKind → ℕ → ℕ → List Value → Act
+enter_static method (kinds.Code code) m next args = GetStatus method.class (λ status. if_started status (Done (Enter m args next)))
+enter_static method _ m next args = Done Stuck
+
+unfoldable pub call_static : Option Method → ℕ → ℕ → List Value → Act
+call_static None m next args = Done Stuck
+call_static (Some method) m next args = enter_static method method.kind m next args
+
+unfoldable pub call_static_named : Program → MethodRef → ℕ → List Value → Act
+call_static_named p (ref.Row row) next args = Done Stuck
+call_static_named p (ref.Known class m) next args = call_static (slice_get p.methods m) m next args
+
 -- ---- the instructions
 
 -- What an instruction does whose successor stands at `next`. The instructions that aren't listed are stuck: they come with the files that have them.
 unfoldable pub act_of : Program → ℕ → Locals → Insn → Act
 act_of p next locals insn.ReturnVoid = Done (Returns None)
+act_of p next locals (insn.Return kind.Plain from) = on_value locals from (λ v. on_int v (λ n. Done (Returns (Some (value.Int n)))))
+act_of p next locals (insn.MoveResult kind.Plain to) = on_pending locals.pending (λ v. on_int v (λ n. set_next next locals to (value.Int n)))
 act_of p next locals (insn.ConstInt to n) = set_next next locals to (value.Int n)
 act_of p next locals (insn.IntOp op.Add to left right) = on_value locals left (λ a. on_int a (λ x. on_value locals right (λ b. on_int b (λ y. set_next next locals to (value.Int (int_wrapping_add w32 x y))))))
+act_of p next locals (insn.IntLit op.Add reversed to left literal) = on_value locals left (λ a. on_int a (λ x. set_next next locals to (value.Int (int_wrapping_add w32 x literal))))
 act_of p next locals (insn.StaticGet kind.Object to field) = GetStatic field (set_next next locals to)
 act_of p next locals (insn.Invoke how.Virtual named args) = on_values locals args (call_named p named next locals)
+act_of p next locals (insn.Invoke how.Static named args) = on_values locals args (call_static_named p named next)
 act_of p next locals _ = Done Stuck
 
 -- ---- the instruction at a place

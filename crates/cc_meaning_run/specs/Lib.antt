@@ -5,3 +5,4 @@ pub mod Eval
 pub mod Invocations
 pub mod Local
 pub mod Laws
+pub mod BuiltInMethods

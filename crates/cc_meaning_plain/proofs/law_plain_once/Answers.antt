@@ -1,5 +1,0 @@
-use Rattle.cc_meaning_plain.proofs.PlainOnce.{plain_once}
-use Rattle.cc_meaning_plain.proofs.law_plain_once.Goals as goal
-
-pub returns : goal.returns
-returns c = plain_once c.law_type_once.ensures c.law_numbers_once.ensures c.law_code_once.ensures
