@@ -81,8 +81,8 @@ function_ran code number w (Some left) t = ran (Returned (Some (value.Int (value
 
 -- A function of a plain file that finds room for its frame gives its value, and changes nothing in the world but the instructions left; where these are too
 -- few it stops. So it is whatever the hook, which a function doesn't ask, and any bound that is large enough.
-abbrev pub FunctionRuns : Type 0
-FunctionRuns = {T : Type 0} (hook : Hook T) (file : List ℕ) (plain : Plain) (i : ℕ) (f : PlainFunction) → AreBytes file → IsPlain file plain →
+abbrev pub FunctionRuns : {T : Type 0} → Hook T → Type 0
+FunctionRuns {T} hook = (file : List ℕ) (plain : Plain) (i : ℕ) (f : PlainFunction) → AreBytes file → IsPlain file plain →
     slice_get plain.functions i ≡ Some f → (bound : ℕ) (number : ℤ) (stack : Stack) (w : World) (t : T) → FitsSigned w32 number → w.counters.instructions ≤ bound →
     stack.depth < most_frames → stack.registers + f.code.registers ≤ most_registers →
     (after : T) × (body (eval_with hook (setting_of plain) bound) (setting_of plain) (function_number plain i) (value.Int number ∷ []) stack w t
