@@ -1,0 +1,2 @@
+//! Images of a thread's state.
+#![tactic(auto)]
