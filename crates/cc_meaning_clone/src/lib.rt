@@ -1,0 +1,2 @@
+//! What a clone of plain files answers to a stream.
+#![tactic(auto)]
