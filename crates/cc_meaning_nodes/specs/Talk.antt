@@ -2,7 +2,7 @@
 use Rattle.std.specs.Prelude.{◌≡◌, ℕ, List, [], ◌∷◌, ◌++◌, Result, Ok, Err}
 use Rattle.cc_meaning.specs.declared.frame.Frame.{Frame}
 use Rattle.cc_meaning.specs.declared.fault.FrameFault.{FrameFault}
-use Rattle.cc_meaning_nodes.specs.Frames.{Ending, Rest, Fails, Frames, frames_of}
+use Rattle.cc_meaning_nodes.specs.Frames.{Ending, Rest, Fails, Frames, ends, with_frame, frames_of, frames_from, IsPartial}
 
 -- what is said to a frame, and the next place, or why the node closes
 pub record Reply (Place Cause : Type 0) : Type 0 where
@@ -84,3 +84,31 @@ module _ {Place Cause : Type 0} where
   -- so the replies to a beginning are a front of the replies to the whole
   abbrev pub SaidIsFront : Manner Place Cause → Type 0
   SaidIsFront manner = (s : Standing Place Cause) (x y : List ℕ) → IsPrefixOf (says manner s x) (says manner s (x ++ y))
+
+  -- ---- what each step of a node comes to
+
+  -- where nothing more comes, nothing is said
+  abbrev pub NothingIsSaid : Manner Place Cause → Type 0
+  NothingIsSaid manner = (place : Place) (e : Ending) → IsPartial e →
+      talk manner (stands_at manner (Ok place) e) [] ≡ record { said = []; standing = stands_at manner (Ok place) e }
+
+  -- the frame that stands first is answered, and then the rest goes on from where that leads
+  abbrev pub FirstIsAnswered : Manner Place Cause → Type 0
+  FirstIsAnswered manner = (place : Place) (e after : Ending) (bytes rest : List ℕ) (frame : Frame) →
+      frames_from e bytes ≡ with_frame frame (frames_from after rest) →
+      talk manner (stands_at manner (Ok place) e) bytes
+      ≡ with_said (manner.answer place frame).said (talk manner (stands_at manner (manner.answer place frame).next after) rest)
+
+  -- where no frame comes whole, the node waits for the rest of it
+  abbrev pub WaitsForRest : Manner Place Cause → Type 0
+  WaitsForRest manner = (place : Place) (e after : Ending) (bytes rest : List ℕ) → frames_from e bytes ≡ frames_from after rest →
+      talk manner (stands_at manner (Ok place) e) bytes ≡ talk manner (stands_at manner (Ok place) after) rest
+
+  -- a fault closes the node, and nothing is said to it
+  abbrev pub FaultCloses : Manner Place Cause → Type 0
+  FaultCloses manner = (place : Place) (e : Ending) (bytes : List ℕ) (fault : FrameFault) → frames_from e bytes ≡ ends (Fails fault) →
+      talk manner (stands_at manner (Ok place) e) bytes ≡ record { said = []; standing = Closed (manner.broken fault) }
+
+  -- a closed node says nothing, and stays closed
+  abbrev pub ClosedIsSilent : Manner Place Cause → Type 0
+  ClosedIsSilent manner = (cause : Cause) (bytes : List ℕ) → talk manner (Closed cause) bytes ≡ record { said = []; standing = Closed cause }
