@@ -1,15 +1,14 @@
 -- The verdict as a stream goes on.
-use Rattle.std.proofs.Common.{◌≡◌, ◌↔◌, ℕ, ◌==◌, Bool, true, false, List, [], ◌∷◌, ◌++◌, Result, Ok, Err, refl, sym, ap, subst, ◌∙◌, if◌then◌else◌, append_assoc}
+use Rattle.std.proofs.Common.{◌↔◌, ℕ, ◌==◌, Bool, true, false, List, [], ◌∷◌, ◌++◌, Result, Ok, Err, sym, subst, if◌then◌else◌}
 use Rattle.cc_meaning.specs.declared.frame.Frame.{Frame}
 use Rattle.cc_meaning.specs.declared.travel.CloneEnd.{CloneEnd}
-use Rattle.cc_meaning_nodes.specs.Frames.{Ending, Rest, Fails, Frames, ends, with_frame, frames_of, frames_from}
+use Rattle.cc_meaning_nodes.specs.Frames.{Ending, Rest, Fails, Frames, frames_of, frames_from}
 use Rattle.cc_meaning_nodes.specs.FrameLaws.{GoesOn}
-use Rattle.cc_meaning_nodes.specs.Talk.{place_after, Standing, Open, Closed, stands_at, stands_after}
+use Rattle.cc_meaning_nodes.specs.Talk.{place_after, Open, Closed, stands_at}
 use Rattle.cc_meaning_nodes.specs.Clone.{Served, Backs, IsFalse, Calls, hello_kind, run_kind, clone_answer, to_hello, to_run, closes, ClonePlace, Waiting, Serving}
 use Rattle.cc_meaning_plain.specs.declared.plain.Plain.{Plain}
-use Rattle.cc_meaning_clone.specs.Hello.{IsJudged}
 use Rattle.cc_meaning_clone.specs.Served.{served}
-use Rattle.cc_meaning_clone.specs.Plain.{PlainStanding, plain_clone, IsJudgedFirst, IsVerdict, IsVerdictAt, VerdictGoesOn, VerdictOnFirst, VerdictWaits}
+use Rattle.cc_meaning_clone.specs.Plain.{plain_clone, IsJudgedFirst, IsVerdict, IsVerdictAt, VerdictGoesOn, VerdictOnFirst, VerdictWaits}
 
 abbrev Place : Type 0
 Place = Result (ClonePlace Plain) CloneEnd

@@ -1,10 +1,10 @@
 -- How a clone of plain files answers a stream.
-use Rattle.std.specs.Prelude.{◌≡◌, ◌↔◌, ℕ, List, [], ◌∷◌, ◌++◌, Result, Ok, Err}
+use Rattle.std.specs.Prelude.{◌≡◌, ◌↔◌, ℕ, List, [], ◌∷◌, ◌++◌, Result, Ok}
 use Rattle.cc_meaning.specs.declared.frame.Frame.{Frame}
 use Rattle.cc_meaning.specs.declared.travel.CloneEnd.{CloneEnd}
 use Rattle.cc_meaning_nodes.specs.Frames.{Ending, with_frame, frames_of, frames_from}
 use Rattle.cc_meaning_nodes.specs.Talk.{Manner, Standing, Open, Closed, stands_at, stands_after}
-use Rattle.cc_meaning_nodes.specs.Clone.{hello_kind, Service, ClonePlace, Waiting, Serving, clone_of}
+use Rattle.cc_meaning_nodes.specs.Clone.{hello_kind, ClonePlace, Waiting, Serving, clone_of}
 use Rattle.cc_meaning_plain.specs.declared.plain.Plain.{Plain}
 use Rattle.cc_meaning_clone.specs.Served.{served}
 use Rattle.cc_meaning_clone.specs.Hello.{IsJudged}
