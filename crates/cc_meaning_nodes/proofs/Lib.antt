@@ -2,3 +2,4 @@ pub mod Fronts
 pub mod Streams
 pub mod Spelled
 mod Laws
+pub mod Talks

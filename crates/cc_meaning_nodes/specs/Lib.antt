@@ -1,3 +1,5 @@
 pub mod Frames
 pub mod FrameSpelling
 pub mod FrameLaws
+pub mod Talk
+pub mod Clone

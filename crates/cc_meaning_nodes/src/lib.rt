@@ -3,3 +3,4 @@
 
 pub mod frame_laws;
 pub mod head;
+pub mod talk_laws;

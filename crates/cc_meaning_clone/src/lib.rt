@@ -1,0 +1,4 @@
+//! What a clone of plain files answers to a stream.
+#![tactic(auto)]
+
+pub mod plain_laws;
