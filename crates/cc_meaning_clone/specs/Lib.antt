@@ -1,3 +1,4 @@
 pub mod Served
 pub mod Hello
 pub mod Plain
+pub mod Worked
