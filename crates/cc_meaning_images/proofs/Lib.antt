@@ -1,3 +1,5 @@
 pub mod Numbers
 pub mod Parts
 pub mod Runs
+pub mod Backs
+pub mod Orders

@@ -1,5 +1,5 @@
 -- The order in which the objects of a state are numbered: `System.out` first, then each object where it is first mentioned.
-use Rattle.std.specs.Prelude.{◌≡◌, ◌⊎◌, ℕ, ◌<◌, ◌==◌, cond, List, [], ◌∷◌, ◌++◌, Option, Some, None, slice_get}
+use Rattle.std.specs.Prelude.{◌≡◌, ◌⊎◌, ◌↔◌, ℕ, ◌<◌, ◌==◌, cond, List, [], ◌∷◌, ◌++◌, Option, Some, None, slice_get}
 use Rattle.std.specs.List.{flat_map, list_any}
 use Rattle.cc_meaning.specs.declared.value.Value.{Value}
 use Rattle.cc_meaning.specs.declared.value.Value.TheVariants as value
@@ -49,3 +49,10 @@ IsReached objects roots order i =
 pub record IsOrder (objects : List Object) (roots : List Value) (order : List ℕ) : Type 0 where
   pub first_mentions : order ≡ distinct (mentioned objects roots order)
   pub reached : (i a : ℕ) → slice_get order i ≡ Some a → IsReached objects roots order i
+
+-- ---- laws
+
+-- where the roots mention nothing and the first object is `System.out`, the order is that object alone, and no other list is
+abbrev pub OutIsAlone : Type 0
+OutIsAlone = (objects : List Object) (roots : List Value) (order : List ℕ) → slice_get objects out_object ≡ Some object.Out → mentions roots ≡ [] →
+    IsOrder objects roots order ↔ (order ≡ out_object ∷ [])
