@@ -1,7 +1,8 @@
 //! Plain files: what the bytes of a file of one printing class spell, and the program that it is.
 #![tactic(auto)]
 
-ghost use Rattle.cc_meaning_plain.specs.Laws.{TypeOnce, DataOnce, InsnOnce, CodeOnce, PlainOnce, PlainReports, PlainReturns};
+ghost use Rattle.cc_meaning_plain.specs.Laws.{TypeOnce, DataOnce, InsnOnce, CodeOnce, PlainOnce, PlainReports, PlainReturns, NumbersMethods, FunctionRuns};
+ghost use Rattle.cc_meaning_run.specs.Eval.{Hook};
 ghost use Rattle.cc_meaning_plain.specs.Worked.{TakesSix, TakesSixWords, ComesToSix, IsOneInvocation, TakesEight, FunctionComesToEight, AreTwoInvocations};
 
 mod plain;
@@ -26,4 +27,9 @@ pub fn worked_function()
     ensures instructions { TakesEight }
     ensures report { FunctionComesToEight }
     ensures invocations { AreTwoInvocations }
+{}
+
+/// Each method of a plain file stands in its program at its number.
+pub fn law_numbers_methods()
+    ensures { (plain : Plain) → NumbersMethods plain }
 {}
