@@ -1,3 +1,5 @@
 pub mod Worked
 pub mod Numbers
 pub mod Running
+pub mod Facts
+pub mod Functions

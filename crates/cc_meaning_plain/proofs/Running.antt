@@ -1,8 +1,8 @@
 -- What one turn of a plain file's method does, whatever accompanies the run: the instructions that add, and the others of `main`.
-use Rattle.std.proofs.Common.{◌≡◌, ℕ, zero, suc, ◌+◌, ◌-◌, ◌*◌, ◌/◌, ◌%◌, ◌<◌, ◌≤◌, ◌==◌, ℤ, pos, ◌-ℤ◌, Bool, true, false, cond, List, [], ◌∷◌, ◌++◌, length, replicate, Option, Some, None, refl, sym, ap, ◌∙◌, subst, arith, nat_lt, slice_get, slice_set, find}
+use Rattle.std.proofs.Common.{◌≡◌, ℕ, zero, suc, ◌+◌, ◌<◌, ◌≤◌, ◌==◌, ℤ, Bool, true, false, List, [], ◌∷◌, ◌++◌, Option, Some, None, refl, sym, ap, ◌∙◌, subst, arith, slice_get, slice_set, find}
 use Rattle.std.specs.Int.{int_wrapping_add, w32}
 use Rattle.std.specs.Int.RustNames.{FitsSigned}
-use Rattle.std.proofs.lemmas.Int.{ints, wrapping_add_is, SFits-int_wrap}
+use Rattle.std.proofs.lemmas.Int.{wrapping_add_is, SFits-int_wrap}
 use Rattle.std.proofs.lemmas.Bool.Decides.{nat_tests}
 use Rattle.cc_meaning.specs.declared.value.Value.TheVariants as value
 use Rattle.cc_meaning.specs.declared.value.Cell.{Cell}
@@ -16,9 +16,9 @@ use Rattle.cc_meaning.specs.declared.instruction.MethodRef.TheVariants as ref
 use Rattle.cc_meaning.specs.declared.instruction.Insn.TheVariants as insn
 use Rattle.cc_meaning_run.specs.World.{Setting, World, Stack, Locals}
 use Rattle.cc_meaning.specs.declared.program.Code.{Code}
-use Rattle.cc_meaning_run.specs.Acts.{Outcome, Next, Returns, Act, Reached, run_act}
+use Rattle.cc_meaning_run.specs.Acts.{Outcome, Next, Act, Reached, run_act}
 use Rattle.cc_meaning_run.specs.Instructions.{on_cell, on_value, on_int, set_next, act_of, code_of as code_in, placed_in, act_placed, act_at}
-use Rattle.cc_meaning_run.specs.Eval.{Returned, Stopped, Ran, ran, Hook, after, with_instructions, turn_in, turn, eval_with}
+use Rattle.cc_meaning_run.specs.Eval.{Stopped, Ran, ran, Hook, after, with_instructions, turn_in, turn, eval_with}
 use Rattle.cc_meaning_plain.specs.declared.plain.PlainInsn.{PlainInsn}
 use Rattle.cc_meaning_plain.specs.declared.plain.PlainInsn.TheVariants.{SgetOut, Const4, AddInt2Addr, AddIntLit8, InvokePrintln, CallFunction}
 use Rattle.cc_meaning_plain.specs.declared.plain.Last.{Last}

@@ -33,3 +33,8 @@ pub fn worked_function()
 pub fn law_numbers_methods()
     ensures { (plain : Plain) → NumbersMethods plain }
 {}
+
+/// A function of a plain file gives its value and takes its instructions, or stops where they are too few, whatever accompanies the run.
+pub fn law_function_runs<T>()
+    ensures { (hook : Hook T) → FunctionRuns hook }
+{}
