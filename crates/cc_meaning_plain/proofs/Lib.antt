@@ -3,3 +3,7 @@ pub mod Numbers
 pub mod Running
 pub mod Facts
 pub mod Functions
+pub mod Values
+pub mod Words
+pub mod Lines
+pub mod Main

@@ -45,16 +45,16 @@ some_units (AddIntLit8 to from literal) = omega arith
 some_units (InvokePrintln receiver from) = omega arith
 some_units (CallFunction function argument to) = omega arith
 
-not_same : (m n : ℕ) → m < n → (m == n) ≡ false
+pub not_same : (m n : ℕ) → m < n → (m == n) ≡ false
 not_same m n h = grind (arith, nat_tests)
 
-same : (m n : ℕ) → m ≡ n → (m == n) ≡ true
+pub same : (m n : ℕ) → m ≡ n → (m == n) ≡ true
 same m n h = grind (arith, nat_tests)
 
-find_here : (p : Placed → Bool) (x : Placed) (xs : List Placed) → p x ≡ true → find p (x ∷ xs) ≡ Some x
+pub find_here : (p : Placed → Bool) (x : Placed) (xs : List Placed) → p x ≡ true → find p (x ∷ xs) ≡ Some x
 find_here p x xs e = rw e refl
 
-find_later : (p : Placed → Bool) (x : Placed) (xs : List Placed) → p x ≡ false → find p (x ∷ xs) ≡ find p xs
+pub find_later : (p : Placed → Bool) (x : Placed) (xs : List Placed) → p x ≡ false → find p (x ∷ xs) ≡ find p xs
 find_later p x xs e = rw e refl
 
 abbrev pub is_at : ℕ → Placed → Bool
