@@ -1,5 +1,5 @@
--- What the bytes of a plain file say of its functions: their instructions add, and their constants have 32 bits.
-use Rattle.std.proofs.Common.{◌≡◌, ℕ, zero, suc, ◌+◌, ◌*◌, ◌/◌, ◌<◌, ◌≤◌, ℤ, pos, ◌-ℤ◌, true, false, cond, List, [], ◌∷◌, ◌++◌, length, Some, sym, subst, arith, nat_lt, slice_get, All}
+-- What the bytes of a plain file say of its methods: constants have 32 bits, functions only add, and main calls functions of the file.
+use Rattle.std.proofs.Common.{◌≡◌, ℕ, zero, suc, ◌+◌, ◌*◌, ◌/◌, ◌<◌, ◌≤◌, ℤ, pos, ◌-ℤ◌, true, false, cond, List, [], ◌∷◌, ◌++◌, length, Some, sym, subst, arith, nat_lt, slice_get, All, map, replicate, refl}
 use Rattle.std.proofs.lemmas.Int.{ints}
 use Rattle.std.proofs.lemmas.Option.{slice_get_within, get_or_from_slice_get}
 use Rattle.std.proofs.lemmas.List.Elements.{All-get_or}
@@ -12,8 +12,9 @@ use Rattle.cc_meaning_plain.specs.declared.plain.Last.TheVariants.{ReturnVoid, R
 use Rattle.cc_meaning_plain.specs.declared.plain.Member.{Member}
 use Rattle.cc_meaning_plain.specs.declared.plain.PlainFunction.{PlainFunction}
 use Rattle.cc_meaning_plain.specs.declared.plain.Plain.{Plain}
+use Rattle.cc_meaning_plain.specs.declared.plain.Held.TheVariants.{Nothing}
 use Rattle.cc_meaning_plain.specs.Code.{Scope, signed_nibble, signed_byte, units_of, IsOfMain, IsOfFunction, SpellsInsn, SpellsInsns, held_at_first, UsesWhatIsSet, IsPlainCode}
-use Rattle.cc_meaning_plain.specs.Plain.{AreFunctions, scope_of, IsPlain}
+use Rattle.cc_meaning_plain.specs.Plain.{AreFunctions, name_of, scope_of, IsPlain}
 use Rattle.cc_meaning_plain.specs.Text.{instructions_of}
 use Rattle.cc_meaning_plain.specs.Laws.{AreBytes}
 use Rattle.cc_meaning_plain.proofs.Running.{some_units, Fits32}
@@ -35,7 +36,7 @@ module _ (file : List ℕ) (bytes : AreBytes file) where
   unfolding u16_at
   highest_byte at = omega (arith, bytes at, bytes (at + 1))
 
-  pub nibble_at : (at : ℕ) (v : ℤ) → v ≡ signed_nibble (u16_at file at / 4096) → Fits32 v
+  nibble_at : (at : ℕ) (v : ℤ) → v ≡ signed_nibble (u16_at file at / 4096) → Fits32 v
   nibble_at at v e = subst (λ (z : ℤ). Fits32 z) (sym e) (nibble_fits (u16_at file at / 4096) (highest_nibble at))
 
   byte_at : (at : ℕ) (v : ℤ) → v ≡ signed_byte (u16_at file at / 256) → Fits32 v
@@ -120,3 +121,56 @@ function_is_fine file plain bytes is i f e =
     let methods = is.methods in
     let all = All-permutation IsFine methods.functions plain.functions methods.same (all_fine file bytes (scope_of plain) (methods.before ++ methods.after) methods.functions methods.are_functions) in
     subst (λ (g : PlainFunction). IsFine g) (get_or_from_slice_get plain.functions i f f e) (All-get_or IsFine plain.functions i f (slice_get_within plain.functions i f e) all)
+
+-- ---- main
+
+-- each constant has 32 bits, and each function that is called is one of the file
+abbrev pub MainDoes : List PlainFunction → List PlainInsn → Type 0
+MainDoes functions [] = Unit {0}
+MainDoes functions (SgetOut to ∷ rest) = MainDoes functions rest
+MainDoes functions (Const4 to v ∷ rest) = Fits32 v × MainDoes functions rest
+MainDoes functions (AddInt2Addr to other ∷ rest) = MainDoes functions rest
+MainDoes functions (AddIntLit8 to from literal ∷ rest) = ⊥
+MainDoes functions (InvokePrintln receiver from ∷ rest) = MainDoes functions rest
+MainDoes functions (CallFunction function argument to ∷ rest) = ((f : PlainFunction) × (slice_get functions function ≡ Some f)) × MainDoes functions rest
+
+named : (functions : List PlainFunction) (i : ℕ) (name : List ℕ) → slice_get (map name_of functions) i ≡ Some name → (f : PlainFunction) × (slice_get functions i ≡ Some f)
+named [] i name e = cc
+named (f ∷ fs) zero name e = (f, refl)
+named (f ∷ fs) (suc i) name e = named fs i name e
+
+main_does : (file : List ℕ) (plain : Plain) → AreBytes file → (last : Last) (registers : ℕ) → IsOfMain last → (insns : List PlainInsn) (at count : ℕ) → SpellsInsns file (scope_of plain) last registers at count insns → MainDoes plain.functions insns
+main_does file plain bytes last registers of [] at count h = tt
+main_does file plain bytes last registers of (SgetOut to ∷ rest) at count h = main_does file plain bytes last registers of rest (at + 2 * 2) h.0 h.3
+main_does file plain bytes last registers of (Const4 to v ∷ rest) at count h = (nibble_at file bytes at v h.2.2, main_does file plain bytes last registers of rest (at + 2 * 1) h.0 h.3)
+main_does file plain bytes last registers of (AddInt2Addr to other ∷ rest) at count h = main_does file plain bytes last registers of rest (at + 2 * 1) h.0 h.3
+main_does file plain bytes last registers of (AddIntLit8 to from literal ∷ rest) at count h = not_both last of h.2.5
+main_does file plain bytes last registers of (InvokePrintln receiver from ∷ rest) at count h = main_does file plain bytes last registers of rest (at + 2 * 3) h.0 h.3
+main_does file plain bytes last registers of (CallFunction function argument to ∷ rest) at count h =
+    let names = h.2.6 in
+    (named plain.functions function names.name names.stands, main_does file plain bytes last registers of rest (at + 2 * 4) h.0 h.3)
+
+is_return_void : (last : Last) → IsOfMain last → last ≡ ReturnVoid
+is_return_void ReturnVoid of = refl
+is_return_void (Return from) of = absurd of
+
+-- what is known of main's code
+pub record MainIsFine (plain : Plain) : Type 0 where
+  pub last : plain.main.last ≡ ReturnVoid
+  pub some_registers : 1 ≤ plain.main.registers
+  pub few_registers : plain.main.registers ≤ 16
+  pub does : MainDoes plain.functions plain.main.insns
+  pub uses : UsesWhatIsSet ReturnVoid (replicate plain.main.registers Nothing) plain.main.insns
+
+pub main_is_fine : (file : List ℕ) (plain : Plain) → AreBytes file → IsPlain file plain → MainIsFine plain
+main_is_fine file plain bytes is =
+    let main = is.methods.is_main in
+    let code = main.code in
+    let last = is_return_void plain.main.last main.returns in
+    record {
+      last = last;
+      some_registers = code.some_registers;
+      few_registers = code.few_registers;
+      does = main_does file plain bytes plain.main.last plain.main.registers main.returns plain.main.insns _ _ code.units;
+      uses = subst (λ (l : Last). UsesWhatIsSet l (held_at_first l plain.main.registers) plain.main.insns) last code.uses;
+    }

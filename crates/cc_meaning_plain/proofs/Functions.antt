@@ -81,10 +81,11 @@ module _ {T : Type 0} (hook : Hook T) (plain : Plain) (m : ℕ) (code : PlainCod
       code.last ≡ Return from → slice_get locals.cells from ≡ Some (int_cell x) → Gives (suc n) pc (suc k) x locals stack w t 1
   unfolding act_of run_act on_value on_cell on_int placed_from turn_in after less_by
   return_turn n k pc from x done locals stack w t e at left last ex =
-      let p = placed pc 1 (insn.Return access.Plain from) in
-      (hook.turned stack.depth [] t,
-      turn_goes hook plain m code is_code n k pc done [] p locals stack w t (led (Returns (Some (value.Int x))) (with_instructions w k) [])
-      (finds_first hook plain m code is_code done [] pc p [] e at refl (ap (λ (a : ℕ). placed_from plain code.last a []) (sym at) ∙ ap (λ (l : Last). placed_from plain l pc []) last)) left (rw ex refl))
+      let p = placed pc 1 (insn.Return access.Plain from) in (
+        hook.turned stack.depth [] t,
+        turn_goes hook plain m code is_code n k pc done [] p locals stack w t (led (Returns (Some (value.Int x))) (with_instructions w k) [])
+            (finds_first hook plain m code is_code done [] pc p [] e at refl (ap (λ (a : ℕ). placed_from plain code.last a []) (sym at) ∙ ap (λ (l : Last). placed_from plain l pc []) last)) left (rw ex refl),
+      )
 
   returns : (n k pc : ℕ) (ns : List ℤ) (hs : List Held) (last : Last) (done : List PlainInsn) (locals : Locals) (stack : Stack) (w : World) (t : T) → code.insns ≡ done ++ [] → pc ≡ units_before done →
       Fits ns hs locals.cells → LastUses hs last → IsOfFunction last → code.last ≡ last → w.counters.instructions ≡ suc k → Gives (suc n) pc (suc k) (number_returned last ns) locals stack w t 1
@@ -157,5 +158,5 @@ function_runs hook file plain i f bytes is e bound argument stack w t fits le fr
     let begins = body_begins hook plain m f.code is_code bound (value.Int argument) stack w t frames few in
     let uses = subst (λ (held : List Held). UsesWhatIsSet f.code.last held f.code.insns) (held_of_function f.code.last f.code.registers fine.returns) fine.uses in
     let runs = goes_straight hook plain m f.code is_code fine.returns f.code.insns [] bound 0 w.counters.instructions (numbers_at_entry f.code argument) (replicate (f.code.registers - 1) Nothing ++ Number ∷ []) _ _ w t refl refl
-        (fits_at_entry (f.code.registers - 1) argument fits) uses fine.adds refl le in
+    (fits_at_entry (f.code.registers - 1) argument fits) uses fine.adds refl le in
     (runs.0, begins ∙ runs.1 ∙ function_gave f.code argument w (less_by (suc (length f.code.insns)) w.counters.instructions) runs.0)

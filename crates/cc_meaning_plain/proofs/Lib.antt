@@ -7,3 +7,5 @@ pub mod Values
 pub mod Words
 pub mod Lines
 pub mod Main
+pub mod Staged
+pub mod Returns

@@ -1,33 +1,28 @@
 -- What one turn of `main` does where it takes `System.out`, prints, calls a function, takes a result or returns.
-use Rattle.std.proofs.Common.{◌≡◌, ℕ, suc, ◌+◌, ◌*◌, ◌<◌, ◌≤◌, ℤ, List, [], ◌∷◌, ◌++◌, length, map, Option, Some, None, refl, sym, ap, ◌∙◌, arith, slice_get, slice_set, find, codes}
-use Rattle.std.specs.Int.{w32}
-use Rattle.cc_meaning.specs.declared.value.Value.{Value}
+use Rattle.std.proofs.Common.{◌≡◌, ℕ, suc, ◌+◌, ℤ, List, [], ◌∷◌, ◌++◌, length, Option, Some, None, refl, sym, ap, ◌∙◌, arith, slice_get, slice_set, find}
 use Rattle.cc_meaning.specs.declared.value.Value.TheVariants as value
 use Rattle.cc_meaning.specs.declared.value.Cell.{Cell}
 use Rattle.cc_meaning.specs.declared.value.Cell.TheVariants as cell
 use Rattle.cc_meaning.specs.declared.value.Object.TheVariants as object
 use Rattle.cc_meaning.specs.declared.report.StopCause.TheVariants as cause
 use Rattle.cc_meaning.specs.declared.report.Event.TheVariants as event
-use Rattle.cc_meaning.specs.declared.program.Method.{Method}
-use Rattle.cc_meaning.specs.declared.program.Placed.{Placed}
 use Rattle.cc_meaning.specs.declared.instruction.Kind.TheVariants as access
 use Rattle.cc_meaning.specs.declared.instruction.How.TheVariants as how
 use Rattle.cc_meaning.specs.declared.instruction.MethodRef.TheVariants as ref
 use Rattle.cc_meaning.specs.declared.instruction.Insn.TheVariants as insn
 use Rattle.cc_meaning.specs.BuiltIn.{object_name, string_name, string_builder_name, system_name, print_stream_name, throwable_name, exception_name, error_name, runtime_exception_name, arithmetic_exception_name, null_pointer_exception_name, array_store_exception_name, class_cast_exception_name, index_out_of_bounds_exception_name, negative_array_size_exception_name, illegal_argument_exception_name, illegal_state_exception_name, array_index_out_of_bounds_exception_name, string_index_out_of_bounds_exception_name, linkage_error_name, virtual_machine_error_name, no_class_def_found_error_name, exception_in_initializer_error_name, incompatible_class_change_error_name, abstract_method_error_name, stack_overflow_error_name}
 use Rattle.cc_meaning_run.specs.World.{World, Stack, Locals}
-use Rattle.cc_meaning_run.specs.Acts.{Next, Enter, Returns, Stops, Reached, less_by, with_words, pay, with_event, found, noted, run_act}
-use Rattle.cc_meaning_run.specs.BuiltInMethods.{built_in_tables, print_stream_methods}
+use Rattle.cc_meaning_run.specs.Acts.{Enter, Returns, Stops, Reached, less_by, with_words, pay, with_event, found, noted, run_act}
+use Rattle.cc_meaning_run.specs.BuiltInMethods.{built_in_tables}
 use Rattle.cc_meaning_run.specs.Instructions.{on_cell, on_value, on_int, on_object, on_values, on_pending, set_next, PrintlnInt, println_if, built_in, line_of, on_stream, print_line, call_built_in, call_kind, call, call_named, if_started, enter_static, call_static, call_static_named, act_of, code_of as code_in}
-use Rattle.cc_meaning_run.specs.Eval.{Returned, ran, Hook, after, resume, replied, with_instructions, turn_in, eval_with}
+use Rattle.cc_meaning_run.specs.Eval.{Returned, ran, Hook, after, with_instructions, turn_in, eval_with}
 use Rattle.cc_meaning_plain.specs.declared.plain.PlainInsn.{PlainInsn}
-use Rattle.cc_meaning_plain.specs.declared.plain.PlainInsn.TheVariants.{SgetOut, Const4, AddInt2Addr, AddIntLit8, InvokePrintln, CallFunction}
+use Rattle.cc_meaning_plain.specs.declared.plain.PlainInsn.TheVariants.{SgetOut, InvokePrintln, CallFunction}
 use Rattle.cc_meaning_plain.specs.declared.plain.Last.{Last}
 use Rattle.cc_meaning_plain.specs.declared.plain.Last.TheVariants.{ReturnVoid}
 use Rattle.cc_meaning_plain.specs.declared.plain.PlainCode.{PlainCode}
 use Rattle.cc_meaning_plain.specs.declared.plain.PlainFunction.{PlainFunction}
 use Rattle.cc_meaning_plain.specs.declared.plain.Plain.{Plain}
-use Rattle.cc_meaning_plain.specs.Code.{units_of}
 use Rattle.cc_meaning_plain.specs.Program.{file_class, built_in_names, class_number, function_number, println_number, out_field, placed, placed_from, type_of, result_of, built_in_of, function_of, code_of, program_of, setting_of}
 use Rattle.cc_meaning_plain.proofs.Numbers.{numbers_methods, println_method, numbers_println}
 use Rattle.cc_meaning_plain.proofs.Running.{units_before, is_at, next_with, led, int_cell, evaluated, Finds, SetsNumber, sets_number, turn_goes, finds_first, find_here, find_later, same, not_same}
@@ -72,10 +67,12 @@ module _ {T : Type 0} (hook : Hook T) (plain : Plain) (m : ℕ) (code : PlainCod
   finds_result done rest pc function argument to e at =
       let call = placed pc 3 (insn.Invoke how.Static (ref.Known file_class (function_number plain function)) (argument ∷ [])) in
       let taken = placed (pc + 3) 1 (insn.MoveResult access.Plain to) in
-      let behind = placed_from plain code.last (pc + 4) rest in
-      (e, omega arith,
-      ap (λ (a : ℕ). find (is_at (pc + 3)) (placed_from plain code.last a (CallFunction function argument to ∷ rest))) (sym at)
-      ∙ find_later (is_at (pc + 3)) call (taken ∷ behind) (not_same pc (pc + 3) (omega arith)) ∙ find_here (is_at (pc + 3)) taken behind (same (pc + 3) (pc + 3) refl))
+      let behind = placed_from plain code.last (pc + 4) rest in (
+        e,
+        omega arith,
+        ap (λ (a : ℕ). find (is_at (pc + 3)) (placed_from plain code.last a (CallFunction function argument to ∷ rest))) (sym at)
+            ∙ find_later (is_at (pc + 3)) call (taken ∷ behind) (not_same pc (pc + 3) (omega arith)) ∙ find_here (is_at (pc + 3)) taken behind (same (pc + 3) (pc + 3) refl),
+      )
 
   pub out_turn : (n k pc to : ℕ) (done rest : List PlainInsn) (locals : Locals) (stack : Stack) (w : World) (t : T) → code.insns ≡ done ++ SgetOut to ∷ rest → pc ≡ units_before done → w.counters.instructions ≡ suc k →
       slice_get w.statics 0 ≡ Some (value.Obj (Some 0)) → evaluated hook plain m code is_code (suc n) pc locals stack w t

@@ -179,8 +179,8 @@ module _ {T : Type 0} (hook : Hook T) (plain : Plain) (m : ℕ) (code : PlainCod
   act_found done rest pc p locals f =
       let at : (0 + units_before done) ≡ units_before done = omega arith in
       let first : find (is_at pc) (placed_from plain code.last 0 code.insns) ≡ Some p =
-          ap (λ (is : List PlainInsn). find (is_at pc) (placed_from plain code.last 0 is)) f.0 ∙ find_placed plain code.last done rest 0 pc (omega (arith, f.1))
-          ∙ ap (λ (a : ℕ). find (is_at pc) (placed_from plain code.last a rest)) at ∙ f.2 in
+      ap (λ (is : List PlainInsn). find (is_at pc) (placed_from plain code.last 0 is)) f.0 ∙ find_placed plain code.last done rest 0 pc (omega (arith, f.1))
+      ∙ ap (λ (a : ℕ). find (is_at pc) (placed_from plain code.last a rest)) at ∙ f.2 in
       ap (λ (c : Option Code). act_placed (program_of plain) locals (placed_in c pc)) is_code ∙ ap (λ (o : Option Placed). act_placed (program_of plain) locals o) first
 
   pub turn_goes : (n k pc : ℕ) (done rest : List PlainInsn) (p : Placed) (locals : Locals) (stack : Stack) (w : World) (t : T) (r : Reached) → Finds done rest pc p → w.counters.instructions ≡ suc k →

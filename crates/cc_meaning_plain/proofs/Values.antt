@@ -1,6 +1,5 @@
 -- The numbers that a plain file's instructions come to have 32 bits.
 use Rattle.std.proofs.Common.{ℕ, zero, suc, ◌-◌, ℤ, pos, List, [], ◌∷◌, ◌++◌, replicate, arith, slice_set}
-use Rattle.std.proofs.lemmas.Int.{ints}
 use Rattle.cc_meaning_plain.specs.declared.plain.PlainInsn.{PlainInsn}
 use Rattle.cc_meaning_plain.specs.declared.plain.PlainInsn.TheVariants.{SgetOut, Const4, AddInt2Addr, AddIntLit8, InvokePrintln, CallFunction}
 use Rattle.cc_meaning_plain.specs.declared.plain.Last.{Last}

@@ -9,7 +9,9 @@ mod plain;
 mod table;
 
 use cc_meaning_file::{one_text, one_uleb};
-pub use plain::{Held, Last, Member, Plain, PlainCode, PlainFunction, PlainFunctions, PlainInsn, PlainInsns};
+pub use plain::{
+    Held, Last, Member, Plain, PlainCode, PlainFunction, PlainFunctions, PlainInsn, PlainInsns,
+};
 pub use table::Table;
 
 /// The meaning of a run, at a worked example: 3 and 4 are added, and the sum is printed.
@@ -38,3 +40,15 @@ pub fn law_numbers_methods()
 pub fn law_function_runs<T>()
     ensures { (hook : Hook T) → FunctionRuns hook }
 {}
+
+/// The run of a plain file within any limits has just the report that its instructions come to.
+pub fn law_plain_reports()
+    ensures { PlainReports }
+{}
+
+/// The run of a plain file always returns within the limits for which none are named, and prints what its instructions print.
+pub fn law_plain_returns()
+    ensures { PlainReturns }
+{
+    law_plain_reports();
+}
