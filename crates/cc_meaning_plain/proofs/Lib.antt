@@ -1,1 +1,11 @@
 pub mod Worked
+pub mod Numbers
+pub mod Running
+pub mod Facts
+pub mod Functions
+pub mod Values
+pub mod Words
+pub mod Lines
+pub mod Main
+pub mod Staged
+pub mod Returns

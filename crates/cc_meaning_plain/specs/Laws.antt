@@ -1,5 +1,5 @@
 -- The laws of plain files.
-use Rattle.std.specs.Prelude.{◌≡◌, ◌↔◌, ℕ, ◌+◌, ◌<◌, ◌≤◌, ℤ, pos, List, [], ◌∷◌, length, replicate, Option, Some, None, slice_get, slice_index}
+use Rattle.std.specs.Prelude.{◌≡◌, ◌↔◌, ℕ, ◌+◌, ◌<◌, ◌≤◌, ℤ, pos, List, [], ◌∷◌, replicate, Option, Some, None, slice_get, slice_index}
 use Rattle.std.specs.Int.{w32}
 use Rattle.std.specs.Int.RustNames.{FitsSigned}
 use Rattle.cc_meaning.specs.declared.report.Ending.TheVariants as ending
@@ -18,7 +18,7 @@ use Rattle.cc_meaning_plain.specs.declared.plain.PlainCode.{PlainCode}
 use Rattle.cc_meaning_plain.specs.declared.plain.PlainFunction.{PlainFunction}
 use Rattle.cc_meaning_plain.specs.declared.plain.Plain.{Plain}
 use Rattle.cc_meaning_plain.specs.declared.plain.PlainInsn.{PlainInsn}
-use Rattle.cc_meaning_plain.specs.Code.{Scope, IsOfMain, SpellsInsn, SpellsInsns, IsPlainCode}
+use Rattle.cc_meaning_plain.specs.Code.{Scope, IsOfMain, SpellsInsn, IsPlainCode}
 use Rattle.cc_meaning_plain.specs.Names.{TypeRow}
 use Rattle.cc_meaning_plain.specs.Plain.{SpellsClassData, IsPlain}
 use Rattle.cc_meaning_plain.specs.Program.{main_number, function_number, main_of, function_of, program_of, setting_of}
