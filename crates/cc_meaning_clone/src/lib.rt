@@ -1,4 +1,5 @@
 //! What a clone of plain files answers to a stream.
 #![tactic(auto)]
 
+pub mod hello_laws;
 pub mod plain_laws;
