@@ -6,6 +6,7 @@ use Rattle.cc_meaning_run.specs.Local.{utf8_of}
 use Rattle.cc_meaning_nodes.specs.Clone.{version}
 use Rattle.cc_meaning_plain.specs.declared.plain.Plain.{Plain}
 use Rattle.cc_meaning_plain.specs.Plain.{IsPlain}
+use Rattle.cc_meaning_plain.specs.Laws.{PlainOnce}
 
 -- a text of bytes with its length in four bytes before it
 abbrev pub with_length : List ℕ → List ℕ
@@ -45,3 +46,15 @@ pub data IsJudged (payload : List ℕ) : Result Plain ℕ → Type 0 where
   accepted : (plain : Plain) → IsHelloOf payload plain → IsJudged payload (Ok plain)
   malformed : (IsHello payload → ⊥) → IsJudged payload (Err 64)
   of_another_form : IsHello payload → ((plain : Plain) → IsHelloOf payload plain → ⊥) → IsJudged payload (Err 80)
+
+-- ---- laws
+
+-- a payload is a Hello in one way at most
+abbrev pub HelloOnce : Type 0
+HelloOnce = (payload main file script other_main other_file other_script : List ℕ) →
+    SpellsHello payload main file script → SpellsHello payload other_main other_file other_script →
+    (main ≡ other_main) × (file ≡ other_file) × (script ≡ other_script)
+
+-- where a file is plain in one way at most, there is one verdict on a Hello at most
+abbrev pub JudgedOnce : Type 0
+JudgedOnce = PlainOnce → (payload : List ℕ) (first second : Result Plain ℕ) → IsJudged payload first → IsJudged payload second → first ≡ second

@@ -1,5 +1,5 @@
 -- How a clone of plain files answers a stream.
-use Rattle.std.specs.Prelude.{◌≡◌, ◌↔◌, ℕ, List, [], ◌∷◌, ◌++◌, Result, Ok}
+use Rattle.std.specs.Prelude.{◌≡◌, ◌↔◌, ℕ, List, [], ◌∷◌, ◌++◌, Option, Some, None, Result, Ok}
 use Rattle.cc_meaning.specs.declared.frame.Frame.{Frame}
 use Rattle.cc_meaning.specs.declared.travel.CloneEnd.{CloneEnd}
 use Rattle.cc_meaning_nodes.specs.Frames.{Ending, with_frame, frames_of, frames_from}
@@ -26,6 +26,11 @@ abbrev pub IsVerdict : PlainStanding → List ℕ → Result Plain ℕ → Type 
 IsVerdict (Open Waiting held) bytes verdict = IsJudgedFirst (frames_of (held ++ bytes)).frames verdict
 IsVerdict (Open (Serving plain) held) bytes verdict = Unit {0}
 IsVerdict (Closed cause) bytes verdict = Unit {0}
+
+-- before a Hello there is no job
+abbrev pub place_in : Option Plain → ClonePlace Plain
+place_in None = Waiting
+place_in (Some plain) = Serving plain
 
 -- ---- laws
 

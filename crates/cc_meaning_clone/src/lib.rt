@@ -1,6 +1,7 @@
 //! What a clone of plain files answers to a stream.
 #![tactic(auto)]
 
+pub mod hello_laws;
 pub mod plain_laws;
 
 ghost use Rattle.cc_meaning_clone.specs.Worked.{EntryIsSpelled, EndIsSpelled};
