@@ -9,3 +9,4 @@ pub mod Lines
 pub mod Main
 pub mod Staged
 pub mod Returns
+pub mod Others

@@ -84,11 +84,11 @@ module _ (plain : Plain) where
   abbrev built_in_list : List Method
   built_in_list = map built_in_of built_in_methods
 
-  first_is_in : first_method plain ≤ length built_in_list
+  pub first_is_in : first_method plain ≤ length built_in_list
   unfolding built_in_methods
   first_is_in = omega (arith, methods_before_are_in built_in_tables plain.class, length-map built_in_of built_in_methods)
 
-  before_main_is_in_list : before_main plain.functions ≤ length (map (function_of plain) plain.functions)
+  pub before_main_is_in_list : before_main plain.functions ≤ length (map (function_of plain) plain.functions)
   before_main_is_in_list = omega (arith, before_main_is_in plain.functions, length-map (function_of plain) plain.functions)
 
   -- a method of the file stands behind those of the classes whose names come before

@@ -1,5 +1,5 @@
 -- The laws of plain files.
-use Rattle.std.specs.Prelude.{◌≡◌, ◌↔◌, ℕ, ◌+◌, ◌<◌, ◌≤◌, ℤ, pos, List, [], ◌∷◌, replicate, Option, Some, None, slice_get, slice_index}
+use Rattle.std.specs.Prelude.{◌≡◌, ◌⊎◌, ◌↔◌, ℕ, ◌+◌, ◌<◌, ◌≤◌, ℤ, pos, List, [], ◌∷◌, replicate, Option, Some, None, slice_get, slice_index}
 use Rattle.std.specs.Int.{w32}
 use Rattle.std.specs.Int.RustNames.{FitsSigned}
 use Rattle.cc_meaning.specs.declared.report.Ending.TheVariants as ending
@@ -7,7 +7,10 @@ use Rattle.cc_meaning.specs.declared.report.Report.{Report}
 use Rattle.cc_meaning.specs.declared.report.Limits.{Limits}
 use Rattle.cc_meaning.specs.declared.report.StopCause.TheVariants as cause
 use Rattle.cc_meaning.specs.declared.value.Value.TheVariants as value
+use Rattle.cc_meaning.specs.declared.program.Code.{Code}
+use Rattle.cc_meaning.specs.declared.program.Method.{Method}
 use Rattle.cc_meaning_run.specs.World.{World, Stack}
+use Rattle.cc_meaning_run.specs.Instructions.{code_of_kind}
 use Rattle.cc_meaning_run.specs.Acts.{less_by}
 use Rattle.cc_meaning_run.specs.Eval.{Returned, Stopped, Ran, ran, Hook, body, with_instructions, eval_with, most_frames, most_registers}
 use Rattle.cc_meaning_run.specs.Local.{local}
@@ -92,3 +95,8 @@ FunctionRuns {T} hook = (file : List ℕ) (plain : Plain) (i : ℕ) (f : PlainFu
 pub record NumbersMethods (plain : Plain) : Type 0 where
   pub main : slice_get (program_of plain).methods (main_number plain) ≡ Some (main_of plain)
   pub functions : (i : ℕ) (f : PlainFunction) → slice_get plain.functions i ≡ Some f → slice_get (program_of plain).methods (function_number plain i) ≡ Some (function_of plain f)
+
+-- no other method of its program has code
+abbrev pub OnlyFileHasCode : Plain → Type 0
+OnlyFileHasCode plain = (m : ℕ) (method : Method) (code : Code) → slice_get (program_of plain).methods m ≡ Some method → code_of_kind method.kind ≡ Some code →
+    (m ≡ main_number plain) ⊎ ((i : ℕ) × (f : PlainFunction) × (m ≡ function_number plain i) × (slice_get plain.functions i ≡ Some f))

@@ -1,7 +1,7 @@
 //! Plain files: what the bytes of a file of one printing class spell, and the program that it is.
 #![tactic(auto)]
 
-ghost use Rattle.cc_meaning_plain.specs.Laws.{TypeOnce, DataOnce, InsnOnce, CodeOnce, PlainOnce, PlainReports, PlainReturns, NumbersMethods, FunctionRuns};
+ghost use Rattle.cc_meaning_plain.specs.Laws.{TypeOnce, DataOnce, InsnOnce, CodeOnce, PlainOnce, PlainReports, PlainReturns, NumbersMethods, OnlyFileHasCode, FunctionRuns};
 ghost use Rattle.cc_meaning_run.specs.Eval.{Hook};
 ghost use Rattle.cc_meaning_plain.specs.Worked.{TakesSix, TakesSixWords, ComesToSix, IsOneInvocation, TakesEight, FunctionComesToEight, AreTwoInvocations};
 
@@ -34,6 +34,12 @@ pub fn worked_function()
 /// Each method of a plain file stands in its program at its number.
 pub fn law_numbers_methods()
     ensures { (plain : Plain) → NumbersMethods plain }
+{}
+
+/// No other method of its program has code.
+#[tactic(auto, using(crate::proofs::Others::only_file_has_code))]
+pub fn law_only_file_has_code()
+    ensures { (plain : Plain) → OnlyFileHasCode plain }
 {}
 
 /// A function of a plain file gives its value and takes its instructions, or stops where they are too few, whatever accompanies the run.
