@@ -1,0 +1,145 @@
+//! The numbers of a plain file's methods among all methods of its program.
+
+ghost use Rattle.std.specs.Prelude.{◌≡◌, ◌<◌, ◌^◌};
+ghost use Rattle.std.specs.Ordering.{nat_cmp};
+ghost use Rattle.std.specs.Cmp.Lexicographic.{slice_cmp};
+ghost use Rattle.cc_meaning_run.specs.BuiltInMethods.{is_before, built_in_tables, methods_before};
+ghost use Rattle.std.specs.Option.{option_copied};
+ghost use Rattle.cc_meaning_plain.specs.Program.{main_name, before_main};
+ghost use Rattle.cc_meaning_clone.specs.Functions.{function_place, function_numbered};
+ghost use Rattle.cc_wire.specs.Numbers.{counts_before, rows_of};
+
+use cc_meaning_plain::{Plain, PlainFunction};
+use std::cmp::Ordering;
+
+/// The built-in classes, and how many methods each has.
+const BUILT_IN: [(&[u8], u32); 26] = [
+    (b"Ljava/io/PrintStream;", 11),
+    (b"Ljava/lang/AbstractMethodError;", 2),
+    (b"Ljava/lang/ArithmeticException;", 2),
+    (b"Ljava/lang/ArrayIndexOutOfBoundsException;", 2),
+    (b"Ljava/lang/ArrayStoreException;", 2),
+    (b"Ljava/lang/ClassCastException;", 2),
+    (b"Ljava/lang/Error;", 2),
+    (b"Ljava/lang/Exception;", 2),
+    (b"Ljava/lang/ExceptionInInitializerError;", 2),
+    (b"Ljava/lang/IllegalArgumentException;", 2),
+    (b"Ljava/lang/IllegalStateException;", 2),
+    (b"Ljava/lang/IncompatibleClassChangeError;", 2),
+    (b"Ljava/lang/IndexOutOfBoundsException;", 2),
+    (b"Ljava/lang/LinkageError;", 2),
+    (b"Ljava/lang/NegativeArraySizeException;", 2),
+    (b"Ljava/lang/NoClassDefFoundError;", 2),
+    (b"Ljava/lang/NullPointerException;", 2),
+    (b"Ljava/lang/Object;", 2),
+    (b"Ljava/lang/RuntimeException;", 2),
+    (b"Ljava/lang/StackOverflowError;", 2),
+    (b"Ljava/lang/String;", 3),
+    (b"Ljava/lang/StringBuilder;", 8),
+    (b"Ljava/lang/StringIndexOutOfBoundsException;", 2),
+    (b"Ljava/lang/System;", 0),
+    (b"Ljava/lang/Throwable;", 3),
+    (b"Ljava/lang/VirtualMachineError;", 2),
+];
+
+/// How a name stands to another, by UTF-16 units. The second one is in ASCII.
+fn compare(name: &[u16], other: &[u8]) -> Ordering
+    ensures { result ≡ slice_cmp nat_cmp name.now other.now }
+{
+    let mut name = name;
+    let mut other = other;
+    while let Some((unit, units)) = name.split_first() {
+        let Some((byte, bytes)) = other.split_first() else {
+            return Ordering::Greater;
+        };
+        let order = unit.cmp(&u16::from(*byte));
+        if order != Ordering::Equal {
+            return order;
+        }
+        name = units;
+        other = bytes;
+    }
+    if other.is_empty() {
+        Ordering::Equal
+    } else {
+        Ordering::Less
+    }
+}
+
+/// Whether a name, which is in ASCII, stands before another.
+#[tactic(auto, using(crate::proofs::Compared::before_is))]
+fn is_before(name: &[u8], other: &[u16]) -> bool
+    ensures { result ≡ is_before name.now other.now }
+{
+    compare(other, name) == Ordering::Greater
+}
+
+/// How many methods the classes of a table have whose names stand before a name.
+fn count_before(table: &[(&[u8], u32)], name: &[u16]) -> u32
+    requires { counts_before (rows_of table.now) name.now < 2 ^ 32 }
+    ensures { result ≡ counts_before (rows_of table.now) name.now }
+{
+    let mut count = 0;
+    for (class, methods) in table {
+        if is_before(class, name) {
+            count += *methods;
+        }
+    }
+    count
+}
+
+/// How many built-in methods stand before those of a class.
+fn first_method(class: &[u16]) -> u32
+    ensures { result ≡ methods_before built_in_tables class.now }
+{
+    count_before(&BUILT_IN, class)
+}
+
+/// Whether a method's name with its types stands before that of `main`.
+fn is_before_main(name: &[u16]) -> bool
+    ensures { result ≡ is_before name.now main_name }
+{
+    compare(name, b"main([Ljava/lang/String;)V") == Ordering::Less
+}
+
+/// How many functions stand before `main`.
+fn before_main(functions: &[PlainFunction]) -> usize
+    ensures { result ≡ before_main functions.now }
+{
+    let mut count = 0;
+    for function in functions {
+        if !is_before_main(function.name.as_slice()) {
+            return count;
+        }
+        count += 1;
+    }
+    count
+}
+
+/// The place among the functions of the method of a number.
+#[tactic(auto, unfolding(cc_meaning_clone::specs::Functions::function_place))]
+fn function_place(plain: &Plain, method: u32) -> Option<usize>
+    ensures { result ≡ function_place plain.now method }
+{
+    let first = first_method(plain.class.as_slice());
+    if method < first {
+        return None;
+    }
+    let place = (method - first) as usize;
+    let main = before_main(plain.functions.as_slice());
+    if place == main {
+        None
+    } else if place < main {
+        Some(place)
+    } else {
+        Some(place - 1)
+    }
+}
+
+/// The function whose method has a number.
+#[tactic(auto, unfolding(cc_meaning_clone::specs::Functions::function_numbered))]
+pub fn function_numbered(plain: &Plain, method: u32) -> Option<&PlainFunction>
+    ensures { option_copied result ≡ function_numbered plain.now method }
+{
+    plain.functions.get(function_place(plain, method)?)
+}
