@@ -1,3 +1,4 @@
 pub mod Fronts
 pub mod Compared
 pub mod Counts
+pub mod Chains

@@ -1,5 +1,7 @@
 -- What a reader's step gives, by what the bytes say.
-use Rattle.std.specs.Prelude.{◌≡◌, ◌≢◌, ℕ, List, Result, Ok, Err}
+use Rattle.std.specs.Prelude.{◌≡◌, ◌≢◌, ℕ, ℤ, List, [], ◌∷◌, Result, Ok, Err}
+use Rattle.cc_meaning.specs.declared.value.Value.{Value}
+use Rattle.cc_meaning.specs.declared.value.Value.TheVariants as value
 use Rattle.cc_meaning.specs.declared.fault.ImageFault.{ImageFault}
 use Rattle.cc_meaning.specs.declared.fault.ImageFault.TheVariants.{Memory}
 use Rattle.cc_meaning_images.specs.Reading.{Got, got, wrong}
@@ -13,3 +15,16 @@ Reads x (Err fault) at rest = fault ≢ Memory → x ≡ wrong fault
 abbrev pub Answers : {A : Type 0} → Result A ImageFault → Result A ImageFault → Type 0
 Answers x (Ok a) = x ≡ Ok a
 Answers x (Err fault) = fault ≢ Memory → x ≡ Err fault
+
+-- the same of one status, of one number, and of nothing
+abbrev pub ReadsStatus : Got (List ℕ) → Result ℕ ImageFault → ℕ → List ℕ → Type 0
+ReadsStatus x (Ok s) at rest = x ≡ got (s ∷ []) at rest
+ReadsStatus x (Err fault) at rest = fault ≢ Memory → x ≡ wrong fault
+
+abbrev pub ReadsNumber : Got (List Value) → Result ℤ ImageFault → ℕ → List ℕ → Type 0
+ReadsNumber x (Ok n) at rest = x ≡ got (value.Int n ∷ []) at rest
+ReadsNumber x (Err fault) at rest = fault ≢ Memory → x ≡ wrong fault
+
+abbrev pub ReadsNothing : Got (Unit {0}) → Result (Unit {0}) ImageFault → ℕ → List ℕ → Type 0
+ReadsNothing x (Ok u) at rest = x ≡ got tt at rest
+ReadsNothing x (Err fault) at rest = fault ≢ Memory → x ≡ wrong fault

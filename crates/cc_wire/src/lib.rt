@@ -2,6 +2,7 @@
 #![tactic(auto)]
 
 mod numbers;
+mod parts;
 mod reader;
 
-pub use reader::Reader;
+pub use numbers::function_numbered;
