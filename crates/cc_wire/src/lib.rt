@@ -4,5 +4,7 @@
 mod numbers;
 mod parts;
 mod reader;
+mod run;
 
 pub use numbers::function_numbered;
+pub use run::decode_run;

@@ -8,6 +8,7 @@ ghost use Rattle.cc_wire.specs.Reading.{Reads};
 use cc_meaning::fault::ImageFault;
 
 /// What is left of the bytes, and the place where it stands.
+#[derive(Drop)]
 pub struct Reader<'a> {
     pub at: usize,
     pub rest: &'a [u8],
