@@ -44,9 +44,9 @@ pub fn add(insn: PlainInsn, numbers: &mut List<i32>)
             let sum = number_at(numbers, from).wrapping_add(literal);
             set_number(numbers, to, sum);
         }
-        PlainInsn::SgetOut { .. } => {}
-        PlainInsn::InvokePrintln { .. } => {}
-        PlainInsn::CallFunction { .. } => {}
+        PlainInsn::SgetOut { .. }
+        | PlainInsn::InvokePrintln { .. }
+        | PlainInsn::CallFunction { .. } => {}
     }
 }
 
