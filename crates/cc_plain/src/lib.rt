@@ -1,0 +1,8 @@
+//! Plain files: their run.
+#![tactic(auto)]
+
+mod function;
+mod running;
+
+pub use function::run_function;
+pub use running::run;
