@@ -1,8 +1,11 @@
 //! A node that answers the frames of a stream as a clone of plain files.
 #![tactic(auto)]
 
+mod file;
 mod hello;
+mod named;
 mod node;
+mod payload;
 mod run;
 mod service;
 mod stream;
