@@ -66,23 +66,23 @@ impl CloneNode {
         ensures front { OnErr result ((verdict : Result PlainFile ℕ) → IsVerdict self.old.standing piece.now verdict →
             AddsFront self.old.said self.new.said (says (plain_clone verdict) self.old.standing piece.now)) }
     {
-        if self.end.is_some() {
+        let CloneNode {
+            job,
+            reader,
+            replies,
+            end,
+        } = self;
+        if end.is_some() {
             return Ok(());
         }
-        let alloc = *self.replies.allocator();
-        match stream::feed(
-            alloc,
-            &mut self.job,
-            &mut self.reader,
-            &mut self.replies,
-            piece,
-        ) {
-            Ok(end) => {
-                self.end = end;
+        let alloc = *replies.allocator();
+        match stream::feed(alloc, job, reader, replies, piece) {
+            Ok(cause) => {
+                *end = cause;
                 Ok(())
             }
             Err(AllocError) => {
-                self.end = Some(CloneEnd::OutOfMemory);
+                *end = Some(CloneEnd::OutOfMemory);
                 Err(Memory)
             }
         }
