@@ -11,3 +11,6 @@ mod service;
 mod stream;
 
 pub use node::CloneNode;
+
+#[cfg(test)]
+mod tests;
