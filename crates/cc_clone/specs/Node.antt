@@ -55,6 +55,10 @@ standing_at (Err cause) e = Closed cause
 standing_at (Ok place) (Rest held) = Open place held
 standing_at (Ok place) (Fails fault) = Closed (BadFrame fault)
 
+-- where a clone stands open
+abbrev pub open_at : Option Plain → Ending → PlainStanding
+open_at job e = standing_at (Ok (place_in job)) e
+
 -- From a standing with a piece to one with what is left of it: a right verdict stays right, and by it what was said and will be said is the same. What was
 -- said stands.
 pub record Steps (old : List ℕ) (s : PlainStanding) (piece new : List ℕ) (t : PlainStanding) (rest : List ℕ) : Type 0 where
@@ -67,7 +71,7 @@ pub record Steps (old : List ℕ) (s : PlainStanding) (piece new : List ℕ) (t 
 -- so many bytes are done, and the clone stands open, or it is closed
 abbrev pub StepsBy : List ℕ → PlainStanding → List ℕ → Progress → List ℕ → Option Plain → Ending → Type 0
 StepsBy old s piece (Reads n) new job e =
-    Steps old s piece new (standing_at (Ok (place_in job)) e) (drop n piece) × (n ≤ length piece) × (0 < length piece → 0 < n) × IsHeld e
+    Steps old s piece new (open_at job e) (drop n piece) × (n ≤ length piece) × (0 < length piece → 0 < n) × IsHeld e
 StepsBy old s piece (Closes cause) new job e = Steps old s piece new (Closed cause) []
 
 -- by each right verdict, of which there is one, this was said to the piece, and the clone stands there

@@ -31,7 +31,8 @@ fn names_main(main: &[u8], plain: &Plain) -> bool
 
 /// The plain file of a Hello, where its script and its main class fit.
 fn judge_parts(alloc: Global, hello: &Hello<'_>) -> Result<Option<Plain>, AllocError>
-    ensures parts { IfOk result (λ read. MatchOption read ((plain : PlainFile) → FitsHello hello.now.main.now hello.now.file.now hello.now.script.now plain → ⊥)
+    ensures parts { IfOk result (λ read. MatchOption read
+        ((plain : PlainFile) → FitsHello hello.now.main.now hello.now.file.now hello.now.script.now plain → ⊥)
         (λ plain. FitsHello hello.now.main.now hello.now.file.now hello.now.script.now plain)) }
     ensures once { IfOk result (λ read. IfSome read (λ plain. PlainOnce)) }
 {

@@ -18,7 +18,8 @@ pub(crate) struct Hello<'a> {
 
 /// The text at the front, whose length stands in four bytes before it, and what is behind it.
 fn text(bytes: &[u8]) -> Option<(&[u8], &[u8])>
-    ensures { MatchOption result ((front rest : List ℕ) → BeginsWith bytes.now front rest → ⊥) (λ found. BeginsWith bytes.now found.0.now found.1.now) }
+    ensures { MatchOption result ((front rest : List ℕ) → BeginsWith bytes.now front rest → ⊥)
+        (λ found. BeginsWith bytes.now found.0.now found.1.now) }
 {
     if bytes.len() < 4 {
         return None;

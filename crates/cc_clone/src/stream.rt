@@ -1,8 +1,7 @@
 //! What a clone does with a piece of its stream.
 
-ghost use Rattle.std.specs.Prelude.{◌≡◌, ◌≤◌, length, drop, Ok, None, IfOk, OnErr};
-ghost use Rattle.cc_meaning_clone.specs.Plain.{place_in};
-ghost use Rattle.cc_clone.specs.Node.{next_in, IsHeld, standing_at, StepsBy, Comes, IsDue};
+ghost use Rattle.std.specs.Prelude.{◌≡◌, ◌≤◌, length, drop, None, IfOk, OnErr};
+ghost use Rattle.cc_clone.specs.Node.{next_in, IsHeld, standing_at, open_at, StepsBy, Comes, IsDue};
 
 use crate::service::serve;
 use cc_framing::FrameReader;
@@ -28,7 +27,8 @@ fn step(
     piece: &[u8],
 ) -> Result<Progress, AllocError>
     requires { IsHeld reader.old }
-    ensures ok { IfOk result (λ progress. StepsBy replies.old.items (standing_at (Ok (place_in job.old)) reader.old) piece.now progress replies.new.items job.new reader.new) }
+    ensures ok { IfOk result (λ progress. StepsBy replies.old.items (open_at job.old reader.old) piece.now progress
+        replies.new.items job.new reader.new) }
     ensures err { OnErr result (replies.new.items ≡ replies.old.items) }
 {
     plain_laws::talk_steps();
@@ -56,9 +56,10 @@ pub(crate) fn feed(
     piece: &[u8],
 ) -> Result<Option<CloneEnd>, AllocError>
     requires { IsHeld reader.old }
-    ensures ok { IfOk result (λ end. Comes replies.old.items (standing_at (Ok (place_in job.old)) reader.old) piece.now replies.new.items (standing_at (next_in end job.new) reader.new)) }
+    ensures ok { IfOk result (λ end. Comes replies.old.items (open_at job.old reader.old) piece.now
+        replies.new.items (standing_at (next_in end job.new) reader.new)) }
     ensures held { IfOk result (λ end. end ≡ None → IsHeld reader.new) }
-    ensures err { OnErr result (IsDue replies.old.items (standing_at (Ok (place_in job.old)) reader.old) piece.now replies.new.items) }
+    ensures err { OnErr result (IsDue replies.old.items (open_at job.old reader.old) piece.now replies.new.items) }
 {
     plain_laws::talk_steps();
     frame_laws::nothing_more();
