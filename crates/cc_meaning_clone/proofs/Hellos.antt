@@ -6,7 +6,7 @@ use Rattle.std.proofs.lemmas.List.{append-nil, append_cancel_left}
 use Rattle.std.proofs.Math.Seq.{take-append_seam}
 use Rattle.cc_meaning_plain.specs.declared.plain.Plain.{Plain}
 use Rattle.cc_meaning_plain.specs.Plain.{IsPlain}
-use Rattle.cc_meaning_clone.specs.Hello.{with_length, IsHelloOf, IsHello, accepted, malformed, of_another_form, HelloOnce, JudgedOnce}
+use Rattle.cc_meaning_clone.specs.Hello.{with_length, TextOnce, IsHelloOf, IsHello, accepted, malformed, of_another_form, HelloOnce, RefusedOnce, JudgedOnce}
 
 -- a text with its length before it, and what follows it, are read off in one way
 text_once : (a b x y : List ℕ) → length a < 2 ^ 32 → length b < 2 ^ 32 → with_length a ++ x ≡ with_length b ++ y → (a ≡ b) × (x ≡ y)
@@ -16,6 +16,9 @@ text_once a b x y short other e =
     let behind : a ++ x ≡ b ++ y = ap (drop 4) e in
     let same : a ≡ b = sym (take-append_seam a x) ∙ ap (λ (n : ℕ). take n (a ++ x)) long ∙ ap (take (length b)) behind ∙ take-append_seam b y in
     (same, append_cancel_left b x y (ap (λ (t : List ℕ). t ++ x) (sym same) ∙ behind))
+
+pub begins_once : TextOnce
+begins_once bytes a x b y one two = text_once a b x y one.is_short two.is_short (sym one.spelled ∙ two.spelled)
 
 pub hello_once : HelloOnce
 hello_once payload main file script other_main other_file other_script first second =
@@ -28,15 +31,17 @@ hello_once payload main file script other_main other_file other_script first sec
 is_hello : (payload : List ℕ) (plain : Plain) → IsHelloOf payload plain → IsHello payload
 is_hello payload plain of = (of.main, of.file, of.script, of.spells)
 
+pub refused_once : RefusedOnce
+refused_once payload _ (Ok _) (malformed not) (accepted q two) = absurd (not (is_hello payload q two))
+refused_once payload _ (Ok _) (of_another_form is none) (accepted q two) = absurd (none q two)
+refused_once payload _ (Err _) (malformed not) (malformed nor) = refl
+refused_once payload _ (Err _) (of_another_form is none) (of_another_form was no_other) = refl
+refused_once payload _ (Err _) (malformed not) (of_another_form is none) = absurd (not is)
+refused_once payload _ (Err _) (of_another_form is none) (malformed not) = absurd (not is)
+
 pub judged_once : JudgedOnce
 judged_once plain_once payload (Ok _) (Ok _) (accepted p one) (accepted q two) =
     let same = hello_once payload one.main one.file one.script two.main two.file two.script one.spells two.spells in
     ap Ok (plain_once one.file p q one.is_plain (subst (λ (file : List ℕ). IsPlain file q) (sym same.1) two.is_plain))
-judged_once plain_once payload (Ok _) (Err _) (accepted p one) (malformed not) = absurd (not (is_hello payload p one))
-judged_once plain_once payload (Ok _) (Err _) (accepted p one) (of_another_form is none) = absurd (none p one)
-judged_once plain_once payload (Err _) (Ok _) (malformed not) (accepted q two) = absurd (not (is_hello payload q two))
-judged_once plain_once payload (Err _) (Ok _) (of_another_form is none) (accepted q two) = absurd (none q two)
-judged_once plain_once payload (Err _) (Err _) (malformed not) (malformed nor) = refl
-judged_once plain_once payload (Err _) (Err _) (of_another_form is none) (of_another_form was no_other) = refl
-judged_once plain_once payload (Err _) (Err _) (malformed not) (of_another_form is none) = absurd (not is)
-judged_once plain_once payload (Err _) (Err _) (of_another_form is none) (malformed not) = absurd (not is)
+judged_once plain_once payload (Ok p) (Err status) one two = refused_once payload status (Ok p) two one
+judged_once plain_once payload (Err status) other one two = sym (refused_once payload status other one two)

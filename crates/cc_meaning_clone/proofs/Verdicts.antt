@@ -88,14 +88,18 @@ goes_on law (Closed cause) x y verdict is = (tt, tt)
 pub on_first : VerdictOnFirst
 on_first place e after bytes rest frame verdict h =
     let there = right_there verdict place e bytes in
-    let first = right_on_first verdict place frame (frames_from after rest).frames in
-    (((λ is. first.0 (subst (λ (all : Frames). IsRightFor verdict place all.frames) h (there.0 is))),
-    (λ is. there.1 (subst (λ (all : Frames). IsRightFor verdict place all.frames) (sym h) (first.1 is)))),
-    past_is_verdict verdict ((plain_clone verdict).answer place frame).next after rest (past_answer verdict place frame))
+    let first = right_on_first verdict place frame (frames_from after rest).frames in (
+      (
+        (λ is. first.0 (subst (λ (all : Frames). IsRightFor verdict place all.frames) h (there.0 is))),
+        (λ is. there.1 (subst (λ (all : Frames). IsRightFor verdict place all.frames) (sym h) (first.1 is))),
+      ),
+      past_is_verdict verdict ((plain_clone verdict).answer place frame).next after rest (past_answer verdict place frame),
+    )
 
 pub waits : VerdictWaits
 waits place e after bytes rest verdict h =
     let there = right_there verdict place e bytes in
-    let later = right_there verdict place after rest in
-    ((λ is. later.1 (subst (λ (all : Frames). IsRightFor verdict place all.frames) h (there.0 is))),
-    (λ is. there.1 (subst (λ (all : Frames). IsRightFor verdict place all.frames) (sym h) (later.0 is))))
+    let later = right_there verdict place after rest in (
+      (λ is. later.1 (subst (λ (all : Frames). IsRightFor verdict place all.frames) h (there.0 is))),
+      (λ is. there.1 (subst (λ (all : Frames). IsRightFor verdict place all.frames) (sym h) (later.0 is))),
+    )

@@ -12,6 +12,11 @@ use Rattle.cc_meaning_plain.specs.Laws.{PlainOnce}
 abbrev pub with_length : List ℕ → List ℕ
 with_length bytes = to_be_bytes w32 (length bytes) ++ bytes
 
+-- the bytes begin with this text and its length, and this is behind it
+pub record BeginsWith (bytes text rest : List ℕ) : Type 0 where
+  pub spelled : bytes ≡ with_length text ++ rest
+  pub is_short : length text < 2 ^ 32
+
 -- the payload of a Hello: the main class is a text in UTF-8, empty where none is named, and nothing stands behind the script
 pub record SpellsHello (payload main file script : List ℕ) : Type 0 where
   pub spelled : payload ≡ version ∷ with_length main ++ (with_length file ++ with_length script)
@@ -49,11 +54,20 @@ pub data IsJudged (payload : List ℕ) : Result Plain ℕ → Type 0 where
 
 -- ---- laws
 
+-- bytes begin with one text at most
+abbrev pub TextOnce : Type 0
+TextOnce = (bytes text rest other_text other_rest : List ℕ) → BeginsWith bytes text rest → BeginsWith bytes other_text other_rest →
+    (text ≡ other_text) × (rest ≡ other_rest)
+
 -- a payload is a Hello in one way at most
 abbrev pub HelloOnce : Type 0
 HelloOnce = (payload main file script other_main other_file other_script : List ℕ) →
     SpellsHello payload main file script → SpellsHello payload other_main other_file other_script →
     (main ≡ other_main) × (file ≡ other_file) × (script ≡ other_script)
+
+-- a Hello that is refused is refused with one status, and accepted with no file
+abbrev pub RefusedOnce : Type 0
+RefusedOnce = (payload : List ℕ) (status : ℕ) (other : Result Plain ℕ) → IsJudged payload (Err status) → IsJudged payload other → other ≡ Err status
 
 -- where a file is plain in one way at most, there is one verdict on a Hello at most
 abbrev pub JudgedOnce : Type 0

@@ -27,6 +27,10 @@ IsVerdict (Open Waiting held) bytes verdict = IsJudgedFirst (frames_of (held ++ 
 IsVerdict (Open (Serving plain) held) bytes verdict = Unit {0}
 IsVerdict (Closed cause) bytes verdict = Unit {0}
 
+-- there is a right verdict
+abbrev pub HasVerdict : PlainStanding → List ℕ → Type 0
+HasVerdict s bytes = (verdict : Result Plain ℕ) × IsVerdict s bytes verdict
+
 -- before a Hello there is no job
 abbrev pub place_in : Option Plain → ClonePlace Plain
 place_in None = Waiting

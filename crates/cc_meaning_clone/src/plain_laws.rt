@@ -1,7 +1,8 @@
 //! Laws of what a clone of plain files says to a stream, and of the verdict by which it goes.
 
 ghost use Rattle.std.specs.Prelude.{Result, ℕ};
-ghost use Rattle.cc_meaning_nodes.specs.Talk.{SaidGoesOn, StandingGoesOn, SaidIsFront, NothingIsSaid, FirstIsAnswered, WaitsForRest, FaultCloses, ClosedIsSilent};
+ghost use Rattle.cc_meaning_nodes.specs.Talk.{SaidGoesOn, StandingGoesOn, SaidIsFront};
+ghost use Rattle.cc_meaning_nodes.specs.Talk.{NothingIsSaid, FirstIsAnswered, WaitsForRest, FaultCloses, ClosedIsSilent};
 ghost use Rattle.cc_meaning_plain.specs.declared.plain.Plain.{Plain as PlainFile};
 ghost use Rattle.cc_meaning_clone.specs.Plain.{plain_clone, VerdictGoesOn, VerdictOnFirst, VerdictWaits};
 

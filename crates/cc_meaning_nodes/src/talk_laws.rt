@@ -1,6 +1,7 @@
 //! Laws of what a node says to a stream, whatever it goes by.
 
-ghost use Rattle.cc_meaning_nodes.specs.Talk.{Manner, SaidGoesOn, StandingGoesOn, SaidIsFront, NothingIsSaid, FirstIsAnswered, WaitsForRest, FaultCloses, ClosedIsSilent};
+ghost use Rattle.cc_meaning_nodes.specs.Talk.{Manner, SaidGoesOn, StandingGoesOn, SaidIsFront};
+ghost use Rattle.cc_meaning_nodes.specs.Talk.{NothingIsSaid, FirstIsAnswered, WaitsForRest, FaultCloses, ClosedIsSilent};
 
 /// The replies to a stream that goes on are those to its beginning, and those from where the node stands then; so the first are a front of all.
 pub fn goes_on<P, C>()

@@ -1,0 +1,5 @@
+pub mod Answered
+pub mod Stepping
+pub mod Payloads
+pub mod Names
+pub mod Judged

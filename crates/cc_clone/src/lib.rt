@@ -1,0 +1,16 @@
+//! A node that answers the frames of a stream as a clone of plain files.
+#![tactic(auto)]
+
+mod file;
+mod hello;
+mod named;
+mod node;
+mod payload;
+mod run;
+mod service;
+mod stream;
+
+pub use node::CloneNode;
+
+#[cfg(test)]
+mod tests;
