@@ -19,7 +19,7 @@ use Rattle.cc_meaning_plain.specs.declared.plain.PlainFunction.{PlainFunction}
 use Rattle.cc_meaning_plain.specs.declared.plain.Plain.{Plain}
 use Rattle.cc_meaning_plain.specs.declared.plain.PlainInsn.{PlainInsn}
 use Rattle.cc_meaning_plain.specs.Code.{Scope, IsOfMain, SpellsInsn, SpellsInsns, IsPlainCode}
-use Rattle.cc_meaning_plain.specs.Names.{TypeRow}
+use Rattle.cc_meaning_plain.specs.Names.{TypeRow, IsFunction}
 use Rattle.cc_meaning_plain.specs.Plain.{SpellsClassData, IsPlain}
 use Rattle.cc_meaning_plain.specs.Program.{main_number, function_number, main_of, function_of, program_of, setting_of}
 use Rattle.cc_meaning_plain.specs.Text.{text_of, value_of, instructions_of}
@@ -62,10 +62,20 @@ DataOnce = (file : List ℕ) (at : ℕ) (first second : List Member) → SpellsC
 abbrev pub PlainOnce : Type 0
 PlainOnce = (file : List ℕ) (first second : Plain) → IsPlain file first → IsPlain file second → first ≡ second
 
+-- a row of methods names one function of a class at most
+abbrev pub NameOnce : Type 0
+NameOnce = (file class : List ℕ) (row : ℕ) (first second : List ℕ) → IsFunction file class row first → IsFunction file class row second → first ≡ second
+
 -- at a place stands one instruction at most, where no two functions have one name
 abbrev pub InsnOnce : Type 0
 InsnOnce = (file : List ℕ) (scope : Scope) (last : Last) (registers at : ℕ) (first second : PlainInsn) → IsRising scope.functions →
     SpellsInsn file scope last registers at first → SpellsInsn file scope last registers at second → first ≡ second
+
+-- in so many units stand one list of instructions at most, and one last instruction of each kind
+abbrev pub InsnsOnce : Type 0
+InsnsOnce = (file : List ℕ) (scope : Scope) (first second : Last) (registers at count : ℕ) (xs ys : List PlainInsn) → IsRising scope.functions →
+    (IsOfMain first ↔ IsOfMain second) → SpellsInsns file scope first registers at count xs → SpellsInsns file scope second registers at count ys →
+    (first ≡ second) × (xs ≡ ys)
 
 -- at a place stands one code item of `main` at most, and one of a function
 abbrev pub CodeOnce : Type 0

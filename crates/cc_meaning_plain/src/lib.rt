@@ -1,7 +1,7 @@
 //! Plain files: what the bytes of a file of one printing class spell, and the program that it is.
 #![tactic(auto)]
 
-ghost use Rattle.cc_meaning_plain.specs.Laws.{TypeOnce, DataOnce, InsnOnce, CodeOnce, PlainOnce, PlainReports, PlainReturns};
+ghost use Rattle.cc_meaning_plain.specs.Laws.{TypeOnce, DataOnce, NameOnce, InsnOnce, InsnsOnce, CodeOnce, PlainOnce, PlainReports, PlainReturns};
 ghost use Rattle.cc_meaning_plain.specs.Worked.{TakesSix, TakesSixWords, ComesToSix, IsOneInvocation, TakesEight, FunctionComesToEight, AreTwoInvocations};
 
 mod plain;
@@ -27,3 +27,38 @@ pub fn worked_function()
     ensures report { FunctionComesToEight }
     ensures invocations { AreTwoInvocations }
 {}
+
+/// A row of methods names one function of a class at most.
+pub fn law_name_once()
+    ensures { NameOnce }
+{
+    one_text();
+}
+
+/// At a place stands one instruction at most.
+pub fn law_insn_once()
+    ensures { InsnOnce }
+{
+    one_text();
+}
+
+/// In so many units stands one list of instructions at most.
+pub fn law_insns_once()
+    ensures { InsnsOnce }
+{
+    law_insn_once();
+}
+
+/// At a place stands one code item at most of `main`, and one of a function.
+pub fn law_code_once()
+    ensures { CodeOnce }
+{
+    law_insns_once();
+}
+
+/// A row of types has one descriptor at most.
+pub fn law_type_once()
+    ensures { TypeOnce }
+{
+    one_text();
+}
