@@ -1,5 +1,5 @@
 -- At a place stands one instruction at most, and so one code item.
-use Rattle.std.proofs.Common.{◌≡◌, ◌↔◌, ℕ, ◌+◌, ◌*◌, ◌%◌, ◌/◌, ◌<◌, ◌≤◌, List, [], ◌∷◌, ◌++◌, Some, slice_get, codes, refl, ap, subst, sym, ◌∙◌, arith}
+use Rattle.std.proofs.Common.{◌≡◌, ◌↔◌, ℕ, ◌+◌, ◌*◌, ◌%◌, ◌<◌, ◌≤◌, List, [], ◌∷◌, ◌++◌, Some, slice_get, codes, refl, ap, subst, sym, ◌∙◌, arith}
 use Rattle.std.specs.Cmp.Lexicographic.{slice_cmp}
 use Rattle.std.specs.Ordering.{nat_cmp}
 use Rattle.std.specs.declared.cmp.Ordering.TheVariants.{Less, Equal}
@@ -15,8 +15,7 @@ use Rattle.cc_meaning_plain.specs.declared.plain.Last.{Last}
 use Rattle.cc_meaning_plain.specs.declared.plain.Last.TheVariants.{ReturnVoid, Return}
 use Rattle.cc_meaning_plain.specs.declared.plain.PlainCode.{PlainCode}
 use Rattle.cc_meaning_plain.specs.Tables.{row_at}
-use Rattle.cc_meaning_plain.specs.Names.{IsFunction}
-use Rattle.cc_meaning_plain.specs.Code.{units_of, Scope, IsOfMain, NamesFunction, SpellsInsn, SpellsLast, SpellsInsns, IsPlainCode}
+use Rattle.cc_meaning_plain.specs.Code.{units_of, Scope, IsOfMain, NamesFunction, SpellsInsn, SpellsLast, SpellsInsns}
 use Rattle.cc_meaning_plain.specs.Laws.{NameOnce, InsnOnce, InsnsOnce, CodeOnce}
 
 -- ---- the function that a row names

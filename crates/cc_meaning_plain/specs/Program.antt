@@ -1,5 +1,5 @@
 -- The program that a plain file is.
-use Rattle.std.specs.Prelude.{ℕ, suc, ◌+◌, ◌-◌, Bool, true, false, cond, not, nat_lt, List, [], ◌∷◌, ◌++◌, length, map, take, drop, Option, Some, None, unwrap_or, position, codes}
+use Rattle.std.specs.Prelude.{ℕ, suc, ◌+◌, ◌-◌, true, false, cond, not, nat_lt, List, [], ◌∷◌, ◌++◌, length, map, take, drop, Option, Some, None, unwrap_or, position, codes}
 use Rattle.std.specs.Str.{bytes_eq}
 use Rattle.cc_meaning.specs.declared.program.Base.{Base}
 use Rattle.cc_meaning.specs.declared.program.Base.TheVariants as base
@@ -19,7 +19,7 @@ use Rattle.cc_meaning.specs.declared.instruction.IntOp.TheVariants as op
 use Rattle.cc_meaning.specs.declared.instruction.MethodRef.TheVariants as ref
 use Rattle.cc_meaning.specs.declared.instruction.Insn.{Insn}
 use Rattle.cc_meaning.specs.declared.instruction.Insn.TheVariants as insn
-use Rattle.cc_meaning.specs.BuiltIn.{object_name, string_name, string_builder_name, print_stream_name}
+use Rattle.cc_meaning.specs.BuiltIn.{object_name, string_name, print_stream_name}
 use Rattle.cc_meaning_run.specs.BuiltInMethods.{BuiltInMethod, BuiltInMethods, built_in_tables, built_in_methods, is_before, methods_before}
 use Rattle.cc_meaning_run.specs.World.{Setting}
 use Rattle.cc_meaning_plain.specs.declared.plain.PlainInsn.{PlainInsn}

@@ -1,14 +1,16 @@
 //! Plain files: what the bytes of a file of one printing class spell, and the program that it is.
 #![tactic(auto)]
 
-ghost use Rattle.cc_meaning_plain.specs.Laws.{TypeOnce, DataOnce, NameOnce, InsnOnce, InsnsOnce, CodeOnce, PlainOnce, PlainReports, PlainReturns};
+ghost use Rattle.cc_meaning_plain.specs.Laws.{TypeOnce, DataOnce, NameOnce, InsnOnce, InsnsOnce, CodeOnce, MainIsNoFunction, MethodsOnce, MethodsAgree, OrderOnce, PlainOnce, PlainReports, PlainReturns};
 ghost use Rattle.cc_meaning_plain.specs.Worked.{TakesSix, TakesSixWords, ComesToSix, IsOneInvocation, TakesEight, FunctionComesToEight, AreTwoInvocations};
 
 mod plain;
 mod table;
 
 use cc_meaning_file::{one_text, one_uleb};
-pub use plain::{Held, Last, Member, Plain, PlainCode, PlainFunction, PlainFunctions, PlainInsn, PlainInsns};
+pub use plain::{
+    Held, Last, Member, Plain, PlainCode, PlainFunction, PlainFunctions, PlainInsn, PlainInsns,
+};
 pub use table::Table;
 
 /// The meaning of a run, at a worked example: 3 and 4 are added, and the sum is printed.
@@ -61,4 +63,49 @@ pub fn law_type_once()
     ensures { TypeOnce }
 {
     one_text();
+}
+
+/// At a place stands the data of a class in one way at most.
+pub fn law_data_once()
+    ensures { DataOnce }
+{
+    one_uleb();
+}
+
+/// A row of methods isn't both a `main` and a function.
+pub fn law_main_is_no_function()
+    ensures { MainIsNoFunction }
+{
+    law_type_once();
+}
+
+/// Methods are one `main` and one list of functions at most.
+pub fn law_methods_once()
+    ensures { MethodsOnce }
+{
+    law_name_once();
+    law_code_once();
+    law_main_is_no_function();
+}
+
+/// The methods of a plain file, told one by one, are its methods.
+pub fn law_methods_agree()
+    ensures { MethodsAgree }
+{}
+
+/// The same functions stand in the order of their names in one way at most.
+pub fn law_order_once()
+    ensures { OrderOnce }
+{}
+
+/// A file is plain in one way at most.
+pub fn law_plain_once()
+    ensures { PlainOnce }
+{
+    law_type_once();
+    law_data_once();
+    law_code_once();
+    law_methods_once();
+    law_methods_agree();
+    law_order_once();
 }

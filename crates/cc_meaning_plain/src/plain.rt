@@ -7,15 +7,30 @@ use cc_meaning::lists::Units;
 #[derive(Clone, Copy)]
 pub enum PlainInsn {
     /// `sget-object` of `System.out`.
-    SgetOut { to: u8 },
+    SgetOut {
+        to: u8,
+    },
     /// `const/4`.
-    Const4 { to: u8, value: i32 },
+    Const4 {
+        to: u8,
+        value: i32,
+    },
     /// `add-int/2addr`.
-    AddInt2Addr { to: u8, other: u8 },
+    AddInt2Addr {
+        to: u8,
+        other: u8,
+    },
     /// `add-int/lit8`.
-    AddIntLit8 { to: u8, from: u8, literal: i32 },
+    AddIntLit8 {
+        to: u8,
+        from: u8,
+        literal: i32,
+    },
     /// `invoke-virtual` of `println(I)V` of PrintStream.
-    InvokePrintln { stream: u8, number: u8 },
+    InvokePrintln {
+        stream: u8,
+        number: u8,
+    },
     /// `invoke-static` of the file's function at this place, and the `move-result` behind it.
     CallFunction {
         function: usize,
