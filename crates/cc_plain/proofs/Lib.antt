@@ -1,0 +1,10 @@
+pub mod RowLemmas
+pub mod TextLemmas
+pub mod DescriptorLemmas
+pub mod FunctionLemmas
+pub mod NumberLemmas
+pub mod UsesLemmas
+pub mod InsnLemmas
+pub mod CodeLemmas
+pub mod MethodLemmas
+pub mod ReaderLemmas

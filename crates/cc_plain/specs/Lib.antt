@@ -1,0 +1,4 @@
+pub mod Ascii
+pub mod Code
+pub mod Uses
+pub mod Class

@@ -1,0 +1,16 @@
+//! Plain files, read whole.
+#![tactic(auto)]
+
+mod bytes;
+mod code;
+mod functions;
+mod header;
+mod instructions;
+mod kind;
+mod members;
+mod methods;
+mod names;
+mod reader;
+mod uses;
+
+pub use reader::read_plain;
