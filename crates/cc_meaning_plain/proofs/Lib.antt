@@ -10,3 +10,7 @@ pub mod Main
 pub mod Staged
 pub mod Returns
 pub mod Others
+pub mod Once
+pub mod MethodsLemmas
+pub mod OrderLemmas
+pub mod PlainOnce

@@ -1,6 +1,7 @@
 -- The laws of plain files.
-use Rattle.std.specs.Prelude.{◌≡◌, ◌⊎◌, ◌↔◌, ℕ, ◌+◌, ◌<◌, ◌≤◌, ℤ, pos, List, [], ◌∷◌, replicate, Option, Some, None, slice_get, slice_index}
+use Rattle.std.specs.Prelude.{◌≡◌, ◌⊎◌, ◌↔◌, ℕ, ◌+◌, ◌<◌, ◌≤◌, ℤ, pos, List, [], ◌∷◌, map, replicate, Option, Some, None, slice_get, slice_index}
 use Rattle.std.specs.Int.{w32}
+use Rattle.std.specs.List.Sorted.{IsPermutation}
 use Rattle.std.specs.Int.RustNames.{FitsSigned}
 use Rattle.cc_meaning.specs.declared.report.Ending.TheVariants as ending
 use Rattle.cc_meaning.specs.declared.report.Report.{Report}
@@ -21,9 +22,10 @@ use Rattle.cc_meaning_plain.specs.declared.plain.PlainCode.{PlainCode}
 use Rattle.cc_meaning_plain.specs.declared.plain.PlainFunction.{PlainFunction}
 use Rattle.cc_meaning_plain.specs.declared.plain.Plain.{Plain}
 use Rattle.cc_meaning_plain.specs.declared.plain.PlainInsn.{PlainInsn}
-use Rattle.cc_meaning_plain.specs.Code.{Scope, IsOfMain, SpellsInsn, IsPlainCode}
-use Rattle.cc_meaning_plain.specs.Names.{TypeRow}
-use Rattle.cc_meaning_plain.specs.Plain.{SpellsClassData, IsPlain}
+use Rattle.cc_meaning_plain.specs.Code.{Scope, IsOfMain, SpellsInsn, SpellsInsns, IsPlainCode}
+use Rattle.cc_meaning_plain.specs.Names.{TypeRow, IsMain, IsFunction}
+use Rattle.cc_meaning_plain.specs.Plain.{SpellsClassData, HasMethods, name_of, IsPlain}
+use Rattle.cc_meaning_plain.specs.Methods.{AreMethods, ListsMethods}
 use Rattle.cc_meaning_plain.specs.Program.{main_number, function_number, main_of, function_of, program_of, setting_of}
 use Rattle.cc_meaning_plain.specs.Text.{text_of, value_of, instructions_of}
 use Rattle.cc_meaning_plain.specs.Staged.{plain_report}
@@ -61,14 +63,41 @@ TypeOnce = (file : List ℕ) (row : ℕ) (first second : List ℕ) → TypeRow f
 abbrev pub DataOnce : Type 0
 DataOnce = (file : List ℕ) (at : ℕ) (first second : List Member) → SpellsClassData file at first → SpellsClassData file at second → first ≡ second
 
+-- a row of methods isn't both a `main` and a function
+abbrev pub MainIsNoFunction : Type 0
+MainIsNoFunction = (file class : List ℕ) (row : ℕ) (name : List ℕ) → IsMain file class row → IsFunction file class row name → ⊥
+
+-- methods are one `main` and one list of functions at most
+abbrev pub MethodsOnce : Type 0
+MethodsOnce = (file class : List ℕ) (members : List Member) (main1 main2 : Option Member) (functions1 functions2 : List PlainFunction) →
+    AreMethods file class members main1 functions1 → AreMethods file class members main2 functions2 → (main1 ≡ main2) × (functions1 ≡ functions2)
+
+-- the methods of a plain file, told one by one, are its methods
+abbrev pub MethodsAgree : Type 0
+MethodsAgree = (file : List ℕ) (members : List Member) (plain : Plain) → HasMethods file members plain ↔ ListsMethods file members plain
+
+-- the same functions stand in the order of their names in one way at most
+abbrev pub OrderOnce : Type 0
+OrderOnce = (first second : List PlainFunction) → IsPermutation first second → IsRising (map name_of first) → IsRising (map name_of second) → first ≡ second
+
 -- a file is plain in one way at most
 abbrev pub PlainOnce : Type 0
 PlainOnce = (file : List ℕ) (first second : Plain) → IsPlain file first → IsPlain file second → first ≡ second
+
+-- a row of methods names one function of a class at most
+abbrev pub NameOnce : Type 0
+NameOnce = (file class : List ℕ) (row : ℕ) (first second : List ℕ) → IsFunction file class row first → IsFunction file class row second → first ≡ second
 
 -- at a place stands one instruction at most, where no two functions have one name
 abbrev pub InsnOnce : Type 0
 InsnOnce = (file : List ℕ) (scope : Scope) (last : Last) (registers at : ℕ) (first second : PlainInsn) → IsRising scope.functions →
     SpellsInsn file scope last registers at first → SpellsInsn file scope last registers at second → first ≡ second
+
+-- in so many units stand one list of instructions at most, and one last instruction of each kind
+abbrev pub InsnsOnce : Type 0
+InsnsOnce = (file : List ℕ) (scope : Scope) (first second : Last) (registers at count : ℕ) (xs ys : List PlainInsn) → IsRising scope.functions →
+    (IsOfMain first ↔ IsOfMain second) → SpellsInsns file scope first registers at count xs → SpellsInsns file scope second registers at count ys →
+    (first ≡ second) × (xs ≡ ys)
 
 -- at a place stands one code item of `main` at most, and one of a function
 abbrev pub CodeOnce : Type 0

@@ -2,6 +2,7 @@ pub mod Tables
 pub mod Names
 pub mod Code
 pub mod Plain
+pub mod Methods
 pub mod Program
 pub mod Text
 pub mod Staged

@@ -1,2 +1,12 @@
 pub mod Functions
 pub mod Stages
+pub mod RowLemmas
+pub mod TextLemmas
+pub mod DescriptorLemmas
+pub mod FunctionLemmas
+pub mod NumberLemmas
+pub mod UsesLemmas
+pub mod InsnLemmas
+pub mod CodeLemmas
+pub mod MethodLemmas
+pub mod ReaderLemmas

@@ -1,5 +1,0 @@
-use Rattle.cc_cli.proofs.RowLemmas.{row_within}
-use Rattle.cc_cli.proofs.plain.header.row_at.Goals as goal
-
-pub returns-clause-within : goal.returns-clause-within
-returns-clause-within c = rw (c.table_at.ensures, c.row_bytes.ensures.exact) (row_within c.args.file.now c.args.table c.args.row c.requires.tables c.requires.row)
