@@ -11,6 +11,10 @@ use thiserror::Error;
 pub struct Memory;
 
 impl fmt::Display for Memory {
+    ghost use Rattle.std.specs.Prelude.{Some, codes};
+
+    ghost output = { λ _. Some (codes "no memory") };
+
     fn fmt<W: fmt::Write>(&self, f: &mut fmt::Formatter<W>) -> fmt::Result {
         f.write_str("no memory")
     }
@@ -33,9 +37,12 @@ pub enum LebFault {
 }
 
 impl fmt::Display for LebFault {
+    ghost use Rattle.std.specs.Prelude.{Some, codes};
+
+    ghost output = { λ _. Some (codes "no number in LEB128") };
+
     fn fmt<W: fmt::Write>(&self, f: &mut fmt::Formatter<W>) -> fmt::Result {
-        f.write_str("no number in LEB128: ")?;
-        fmt::Debug::fmt(self, f)
+        f.write_str("no number in LEB128")
     }
 }
 
@@ -55,9 +62,12 @@ pub enum TextFault {
 }
 
 impl fmt::Display for TextFault {
+    ghost use Rattle.std.specs.Prelude.{Some, codes};
+
+    ghost output = { λ _. Some (codes "no text in MUTF-8") };
+
     fn fmt<W: fmt::Write>(&self, f: &mut fmt::Formatter<W>) -> fmt::Result {
-        f.write_str("no text in MUTF-8: ")?;
-        fmt::Debug::fmt(self, f)
+        f.write_str("no text in MUTF-8")
     }
 }
 
@@ -105,9 +115,12 @@ pub enum DexFault {
 }
 
 impl fmt::Display for DexFault {
+    ghost use Rattle.std.specs.Prelude.{Some, codes};
+
+    ghost output = { λ _. Some (codes "no DEX file") };
+
     fn fmt<W: fmt::Write>(&self, f: &mut fmt::Formatter<W>) -> fmt::Result {
-        f.write_str("no DEX file: ")?;
-        fmt::Debug::fmt(self, f)
+        f.write_str("no DEX file")
     }
 }
 
@@ -138,9 +151,12 @@ pub enum InsnFault {
 }
 
 impl fmt::Display for InsnFault {
+    ghost use Rattle.std.specs.Prelude.{Some, codes};
+
+    ghost output = { λ _. Some (codes "no instruction") };
+
     fn fmt<W: fmt::Write>(&self, f: &mut fmt::Formatter<W>) -> fmt::Result {
-        f.write_str("no instruction: ")?;
-        fmt::Debug::fmt(self, f)
+        f.write_str("no instruction")
     }
 }
 
@@ -192,9 +208,12 @@ pub enum ProgramFault {
 }
 
 impl fmt::Display for ProgramFault {
+    ghost use Rattle.std.specs.Prelude.{Some, codes};
+
+    ghost output = { λ _. Some (codes "no program") };
+
     fn fmt<W: fmt::Write>(&self, f: &mut fmt::Formatter<W>) -> fmt::Result {
-        f.write_str("no program: ")?;
-        fmt::Debug::fmt(self, f)
+        f.write_str("no program")
     }
 }
 
@@ -238,9 +257,12 @@ pub enum VerifyFault {
 }
 
 impl fmt::Display for VerifyFault {
+    ghost use Rattle.std.specs.Prelude.{Some, codes};
+
+    ghost output = { λ _. Some (codes "not well typed") };
+
     fn fmt<W: fmt::Write>(&self, f: &mut fmt::Formatter<W>) -> fmt::Result {
-        f.write_str("not well typed: ")?;
-        fmt::Debug::fmt(self, f)
+        f.write_str("not well typed")
     }
 }
 
@@ -282,9 +304,12 @@ pub enum ScriptFault {
 }
 
 impl fmt::Display for ScriptFault {
+    ghost use Rattle.std.specs.Prelude.{Some, codes};
+
+    ghost output = { λ _. Some (codes "no script") };
+
     fn fmt<W: fmt::Write>(&self, f: &mut fmt::Formatter<W>) -> fmt::Result {
-        f.write_str("no script: ")?;
-        fmt::Debug::fmt(self, f)
+        f.write_str("no script")
     }
 }
 
@@ -320,9 +345,12 @@ pub enum CallFault {
 }
 
 impl fmt::Display for CallFault {
+    ghost use Rattle.std.specs.Prelude.{Some, codes};
+
+    ghost output = { λ _. Some (codes "no call relations") };
+
     fn fmt<W: fmt::Write>(&self, f: &mut fmt::Formatter<W>) -> fmt::Result {
-        f.write_str("no call relations: ")?;
-        fmt::Debug::fmt(self, f)
+        f.write_str("no call relations")
     }
 }
 
@@ -359,9 +387,12 @@ pub enum ProfileFault {
 }
 
 impl fmt::Display for ProfileFault {
+    ghost use Rattle.std.specs.Prelude.{Some, codes};
+
+    ghost output = { λ _. Some (codes "no profile") };
+
     fn fmt<W: fmt::Write>(&self, f: &mut fmt::Formatter<W>) -> fmt::Result {
-        f.write_str("no profile: ")?;
-        fmt::Debug::fmt(self, f)
+        f.write_str("no profile")
     }
 }
 
@@ -403,9 +434,12 @@ pub enum PartitionFault {
 }
 
 impl fmt::Display for PartitionFault {
+    ghost use Rattle.std.specs.Prelude.{Some, codes};
+
+    ghost output = { λ _. Some (codes "no partition") };
+
     fn fmt<W: fmt::Write>(&self, f: &mut fmt::Formatter<W>) -> fmt::Result {
-        f.write_str("no partition: ")?;
-        fmt::Debug::fmt(self, f)
+        f.write_str("no partition")
     }
 }
 
@@ -432,18 +466,11 @@ impl From<Memory> for PartitionFault {
 }
 
 /// A rule of legal partitions that is broken, and two methods of which it is false.
-#[derive(Clone, Copy, Debug, Error)]
+#[derive(Clone, Copy, Debug)]
 pub struct Broken {
     pub rule: u8,
     pub m1: MethodIx,
     pub m2: MethodIx,
-}
-
-impl fmt::Display for Broken {
-    fn fmt<W: fmt::Write>(&self, f: &mut fmt::Formatter<W>) -> fmt::Result {
-        f.write_str("a broken rule: ")?;
-        fmt::Debug::fmt(self, f)
-    }
 }
 
 /// Why a certificate proves nothing. Leaves count from 0.
@@ -464,9 +491,12 @@ pub enum CertFault {
 }
 
 impl fmt::Display for CertFault {
+    ghost use Rattle.std.specs.Prelude.{Some, codes};
+
+    ghost output = { λ _. Some (codes "no proof") };
+
     fn fmt<W: fmt::Write>(&self, f: &mut fmt::Formatter<W>) -> fmt::Result {
-        f.write_str("no proof: ")?;
-        fmt::Debug::fmt(self, f)
+        f.write_str("no proof")
     }
 }
 
@@ -503,9 +533,12 @@ pub enum ImageFault {
 }
 
 impl fmt::Display for ImageFault {
+    ghost use Rattle.std.specs.Prelude.{Some, codes};
+
+    ghost output = { λ _. Some (codes "no image") };
+
     fn fmt<W: fmt::Write>(&self, f: &mut fmt::Formatter<W>) -> fmt::Result {
-        f.write_str("no image: ")?;
-        fmt::Debug::fmt(self, f)
+        f.write_str("no image")
     }
 }
 
@@ -545,9 +578,12 @@ pub enum FrameFault {
 }
 
 impl fmt::Display for FrameFault {
+    ghost use Rattle.std.specs.Prelude.{Some, codes};
+
+    ghost output = { λ _. Some (codes "no frame") };
+
     fn fmt<W: fmt::Write>(&self, f: &mut fmt::Formatter<W>) -> fmt::Result {
-        f.write_str("no frame: ")?;
-        fmt::Debug::fmt(self, f)
+        f.write_str("no frame")
     }
 }
 

@@ -54,7 +54,7 @@ pub type ProtoRows = List<ProtoRow>;
 
 /// A row of fields: the rows of its class, its type and its name.
 /// Source: Dalvik Executable format, section field_id_item.
-#[derive(Clone, Copy, PartialEq, Eq)]
+#[derive(Clone, Copy)]
 pub struct FieldRow {
     pub class: u32,
     pub kind: u32,
@@ -66,7 +66,7 @@ pub type FieldRows = List<FieldRow>;
 
 /// A row of methods: the rows of its class, its prototype and its name.
 /// Source: Dalvik Executable format, section method_id_item.
-#[derive(Clone, Copy, PartialEq, Eq)]
+#[derive(Clone, Copy)]
 pub struct MethodRow {
     pub class: u32,
     pub proto: u32,
@@ -106,7 +106,7 @@ pub type RawClasses = List<RawClass>;
 
 /// A field of a class data item: its row of the fields, its access flags, and whether it stands among the static fields.
 /// Source: Dalvik Executable format, section encoded_field format.
-#[derive(Clone, Copy, PartialEq, Eq)]
+#[derive(Clone, Copy)]
 pub struct RawField {
     pub row: u32,
     pub flags: u32,
@@ -153,7 +153,7 @@ pub type RawTries = List<RawTry>;
 
 /// A handler: the row of the type that it takes, or `None` where it takes all, and its address in units.
 /// Source: Dalvik Executable format, sections encoded_catch_handler format and encoded_type_addr_pair format.
-#[derive(Clone, Copy, PartialEq, Eq)]
+#[derive(Clone, Copy)]
 pub struct RawCatch {
     pub row: Option<u32>,
     pub at: u32,

@@ -6,7 +6,7 @@ use crate::program::DexType;
 
 /// What a value is taken as by a move, a return, or an access to a field or an element: an int, a long, a reference, or a number that is kept in
 /// fewer bits.
-#[derive(Clone, Copy, PartialEq, Eq)]
+#[derive(Clone, Copy)]
 pub enum Kind {
     Plain,
     Wide,
@@ -18,7 +18,7 @@ pub enum Kind {
 }
 
 /// A comparison of two ints, or of one with 0; of references only `Eq` and `Ne`.
-#[derive(Clone, Copy, PartialEq, Eq)]
+#[derive(Clone, Copy)]
 pub enum Test {
     Eq,
     Ne,
@@ -29,7 +29,7 @@ pub enum Test {
 }
 
 /// How a method is invoked, by the name of the instruction.
-#[derive(Clone, Copy, PartialEq, Eq)]
+#[derive(Clone, Copy)]
 pub enum How {
     Virtual,
     Super,
@@ -39,7 +39,7 @@ pub enum How {
 }
 
 /// A conversion between numbers. That to a char extends with zeros, the others with the sign.
-#[derive(Clone, Copy, PartialEq, Eq)]
+#[derive(Clone, Copy)]
 pub enum Conversion {
     IntToLong,
     LongToInt,
@@ -49,7 +49,7 @@ pub enum Conversion {
 }
 
 /// An operation on two numbers. It wraps; a quotient is rounded towards zero, and a shift uses the low 5 or 6 bits of its count.
-#[derive(Clone, Copy, PartialEq, Eq)]
+#[derive(Clone, Copy)]
 pub enum IntOp {
     Add,
     Sub,
@@ -65,21 +65,21 @@ pub enum IntOp {
 }
 
 /// An operation on one number: its negative, which wraps, or the opposite of each bit.
-#[derive(Clone, Copy, PartialEq, Eq)]
+#[derive(Clone, Copy)]
 pub enum UnaryOp {
     Negate,
     Not,
 }
 
 /// A type that an instruction names: as it is decoded the row of the file's types, and in a program the type.
-#[derive(Clone, Copy, PartialEq, Eq)]
+#[derive(Clone, Copy)]
 pub enum TypeRef {
     Row(u32),
     Known(DexType),
 }
 
 /// A method that an instruction names: as it is decoded the row of the file's methods, and in a program the named class and the method after resolution.
-#[derive(Clone, Copy, PartialEq, Eq)]
+#[derive(Clone, Copy)]
 pub enum MethodRef {
     Row(u32),
     Known { class: ClassIx, method: MethodIx },

@@ -4,7 +4,7 @@ use crate::lists::{MethodIx, MethodList, Numbers};
 use cc_list::List;
 
 /// What an instruction costs on the device and on the clone, and what a migration and a byte that it sends cost, all in one unit of cost.
-#[derive(Clone, Copy, PartialEq, Eq)]
+#[derive(Clone, Copy)]
 pub struct Weights {
     pub device: u32,
     pub clone: u32,
@@ -14,7 +14,7 @@ pub struct Weights {
 
 /// An invocation: its method, the place of the one that it was called by, its cost on the device and on the clone with all invocations below it,
 /// and the bytes of the states that a migration at its entry and at its end would send.
-#[derive(Clone, Copy, PartialEq, Eq)]
+#[derive(Clone, Copy)]
 pub struct Node {
     pub method: MethodIx,
     pub parent: u32,
@@ -51,7 +51,7 @@ pub struct Partition {
 }
 
 /// What a search has chosen for a method: that it isn't moved, that it is, or nothing yet.
-#[derive(Clone, Copy, PartialEq, Eq)]
+#[derive(Clone, Copy)]
 pub enum Choice {
     Stay,
     Move,

@@ -6,7 +6,7 @@ use cc_list::List;
 
 /// A type of a field, a parameter or a result, without its array dimensions. There is none of floating point.
 /// Source: Dalvik Executable format, section TypeDescriptor Semantics.
-#[derive(Clone, Copy, PartialEq, Eq)]
+#[derive(Clone, Copy)]
 pub enum Base {
     Boolean,
     Byte,
@@ -19,7 +19,7 @@ pub enum Base {
 
 /// A type: an array of `dims` dimensions of a base type, and at 0 the base type itself.
 /// Source: Dalvik Executable format, section TypeDescriptor Semantics.
-#[derive(Clone, Copy, PartialEq, Eq)]
+#[derive(Clone, Copy)]
 pub struct DexType {
     pub dims: u8,
     pub base: Base,
@@ -41,7 +41,7 @@ pub enum ClassKind {
 
 /// The value that a file states for a static field. A text is the number of a text of the program, and in what is read of a file its row.
 /// Source: Dalvik Executable format, section encoded_value encoding.
-#[derive(Clone, Copy, PartialEq, Eq)]
+#[derive(Clone, Copy)]
 pub enum StaticValue {
     Int(i32),
     Long(i64),
@@ -125,7 +125,7 @@ pub type Insns = List<Placed>;
 
 /// A handler of a try: the type that it takes, or every one at `None`, and its address in units.
 /// Source: Dalvik Executable format, sections encoded_catch_handler format and encoded_type_addr_pair format.
-#[derive(Clone, Copy, PartialEq, Eq)]
+#[derive(Clone, Copy)]
 pub struct Catch {
     pub kind: Option<DexType>,
     pub at: u32,
@@ -168,7 +168,7 @@ pub struct Program {
 
 /// What the verifier knows of a register: nothing, an int, the literal 0, which is an int or null, half of a long, a reference that fits a type, or an
 /// object that was made at that address and whose constructor has still to be called.
-#[derive(Clone, Copy, PartialEq, Eq)]
+#[derive(Clone, Copy)]
 pub enum RegType {
     Unset,
     Int,

@@ -6,7 +6,7 @@ use cc_list::List;
 
 /// Why a run stopped: no instructions are left, too few words are left, the script of a class has ended, or its next answer is for another method.
 /// `wanted` is the method that was called, and `found` the one that the answer names.
-#[derive(Clone, Copy, PartialEq, Eq, Debug)]
+#[derive(Clone, Copy, Debug)]
 pub enum StopCause {
     Budget,
     Heap,
@@ -21,7 +21,7 @@ pub enum StopCause {
 }
 
 /// How a call ended: with a result, or none, with an exception, which is an object, or with the run's stop.
-#[derive(Clone, Copy, PartialEq, Eq)]
+#[derive(Clone, Copy)]
 pub enum CallEnd {
     Returned(Option<Value>),
     Thrown(ObjId),
@@ -100,7 +100,7 @@ pub struct Report {
 }
 
 /// How many instructions and words a run may spend: instructions to 2^32, words to 2^22.
-#[derive(Clone, Copy, PartialEq, Eq)]
+#[derive(Clone, Copy)]
 pub struct Limits {
     pub instructions: u64,
     pub words: u32,

@@ -6,7 +6,7 @@ use cc_list::List;
 
 /// What a link in memory does next: bytes go up to the clone or down to the device, a call moves nothing, the link is cut,
 /// a call fails, or the clone takes no more bytes.
-#[derive(Clone, Copy, PartialEq, Eq)]
+#[derive(Clone, Copy)]
 pub enum Happening {
     Up(u32),
     Down(u32),

@@ -4,7 +4,7 @@ use crate::lists::{ClassIx, MethodIx, ObjId, ObjIds, Units};
 use cc_list::List;
 
 /// A value: a number of 32 or 64 bits, or a reference, null where there is no object. A boolean, a byte, a short and a char are an `Int`.
-#[derive(Clone, Copy, PartialEq, Eq)]
+#[derive(Clone, Copy)]
 pub enum Value {
     Int(i32),
     Long(i64),
@@ -30,7 +30,7 @@ pub enum Object {
 pub type Objects = List<Object>;
 
 /// What a register holds: nothing yet, a value, or the second half of a long. A long stands in its first register as a value, and in the next one as `High`.
-#[derive(Clone, Copy, PartialEq, Eq)]
+#[derive(Clone, Copy)]
 pub enum Cell {
     Unset,
     Value(Value),
@@ -49,7 +49,7 @@ pub struct Activation {
 }
 
 /// The number of a text or of a class, and the object that was made for its literal or constant.
-#[derive(Clone, Copy, PartialEq, Eq)]
+#[derive(Clone, Copy)]
 pub struct Made {
     pub what: u32,
     pub number: u32,

@@ -128,7 +128,7 @@ fn copies_a_text(rt: HostRuntime) -> Result<(), Fail> {
 #[test]
 fn shows_a_fault(rt: HostRuntime) -> Result<(), Fail> {
     let fault = DexFault::BadIndex { table: 1, row: 2 };
-    let line = format!(in rt.alloc(); "{fault}")?;
+    let line = format!(in rt.alloc(); "{fault}: {fault:?}")?;
     assert_eq!(rt; line.as_str(), "no DEX file: BadIndex { table: 1, row: 2 }");
     assert!(rt; matches!(ProfileFault::from(Memory), ProfileFault::Memory));
     Ok(())
