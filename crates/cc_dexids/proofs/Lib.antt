@@ -1,0 +1,4 @@
+pub mod Placed
+pub mod Units
+pub mod Walks
+pub mod Knowing
