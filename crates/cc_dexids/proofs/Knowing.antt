@@ -1,13 +1,13 @@
 -- What the texts and types that were read say of a row.
-use Rattle.std.proofs.Common.{◌≡◌, ◌⊎◌, inl, inr, ℕ, ◌<◌, ◌≤◌, Bool, true, false, ◌&&◌, nat_lt, List, length, slice_get, Option, Some, None, refl, sym, ap, subst, ◌∙◌, arith}
+use Rattle.std.proofs.Common.{◌≡◌, inl, inr, ℕ, ◌<◌, ◌≤◌, true, false, ◌&&◌, nat_lt, List, length, slice_get, Some, None, sym, ap, ◌∙◌, arith}
 use Rattle.std.proofs.lemmas.Bool.Decides.{nat_tests}
 use Rattle.std.proofs.lemmas.Option.{slice_get_within, slice_get_cases}
 use Rattle.cc_meaning_file.specs.declared.table.Table.TheVariants.{Texts, Types}
 use Rattle.cc_meaning_file.specs.Tables.{row_count}
-use Rattle.cc_meaning_file.specs.Descriptors.{is_paired}
-use Rattle.cc_meaning_file.specs.Faults.{text_units, type_text, is_name}
+use Rattle.cc_meaning_file.specs.Descriptors.{is_paired, is_descriptor}
+use Rattle.cc_meaning_file.specs.Faults.{text_units, type_text, is_name, is_described}
 use Rattle.cc_meaning_file.specs.Ids.{EachSpelled}
-use Rattle.cc_dexids.specs.Known.{TextRead, TypeRead, IsKnown}
+use Rattle.cc_dexids.specs.Known.{TextRead, IsKnown}
 
 pub none_past : {A : Type 0} (items : List A) (place : ℕ) → slice_get items place ≡ None → length items ≤ place
 none_past items place none =
@@ -30,6 +30,18 @@ pub name_past : (file : List ℕ) (texts : List (List ℕ)) (row : ℕ) → Each
 name_past file texts row known e =
     let past : row_count file Texts ≤ row = omega (arith, none_past texts row e, known.all) in
     ap (λ b. b && is_paired (text_units file row)) (not_below row (row_count file Texts) past)
+
+pub descriptor_there : (file : List ℕ) (texts : List (List ℕ)) (text : ℕ) (units : List ℕ) → EachSpelled texts (row_count file Texts) (TextRead file) →
+    slice_get texts text ≡ Some units → is_described file text ≡ is_descriptor units
+descriptor_there file texts text units known e =
+    let within : text < row_count file Texts = omega (arith, slice_get_within texts text units e, known.all) in
+    ap (λ b. b && is_descriptor (text_units file text)) (below text (row_count file Texts) within) ∙ ap is_descriptor (sym (known.each text units e).found)
+
+pub descriptor_past : (file : List ℕ) (texts : List (List ℕ)) (text : ℕ) → EachSpelled texts (row_count file Texts) (TextRead file) →
+    slice_get texts text ≡ None → is_described file text ≡ false
+descriptor_past file texts text known e =
+    let past : row_count file Texts ≤ text = omega (arith, none_past texts text e, known.all) in
+    ap (λ b. b && is_descriptor (text_units file text)) (not_below text (row_count file Texts) past)
 
 pub described : (file : List ℕ) (texts : List (List ℕ)) (types : List ℕ) (row text : ℕ) (units : List ℕ) → IsKnown file texts types →
     slice_get types row ≡ Some text → slice_get texts text ≡ Some units →

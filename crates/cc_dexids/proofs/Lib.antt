@@ -2,3 +2,4 @@ pub mod Placed
 pub mod Units
 pub mod Walks
 pub mod Knowing
+pub mod Spelling

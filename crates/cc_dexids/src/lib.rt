@@ -6,5 +6,9 @@ mod descriptors;
 mod header;
 mod known;
 mod listed;
+mod read;
+mod readers;
 mod tables;
 mod walk;
+
+pub use read::read_ids;

@@ -1,5 +1,5 @@
 -- The faults of a file's header and tables, in the order in which they are named.
-use Rattle.std.specs.Prelude.{◌≡◌, ◌≢◌, ℕ, zero, suc, ◌+◌, ◌*◌, Bool, true, not, ◌&&◌, nat_lt, ◌==◌, if◌then◌else◌, List, [], length, map, nat_eq, Option, Some, None, Result, Ok, Err, unwrap_or}
+use Rattle.std.specs.Prelude.{◌≡◌, ◌≢◌, ℕ, zero, suc, ◌+◌, ◌*◌, Bool, not, ◌&&◌, ◌||◌, nat_lt, ◌==◌, if◌then◌else◌, List, [], length, map, nat_eq, Option, Some, None, Result, Ok, Err, unwrap_or}
 use Rattle.std.specs.Option.{option_or}
 use Rattle.std.specs.List.{list_all, range_with_len, starts_with}
 use Rattle.std.specs.Str.{bytes_eq}
@@ -98,9 +98,9 @@ text_fault at row (Err (text.BadForm place)) = Some (fault.BadText row)
 text_fault at row (Err text.BadCount) = Some (fault.BadText row)
 text_fault at row (Err text.Memory) = Some (fault.BadText row)
 
--- a row of types names a descriptor
-abbrev pub type_fits : List ℕ → ℕ → Bool
-type_fits file row = nat_lt (type_text file row) (row_count file Texts) && is_descriptor (text_units file (type_text file row))
+-- a row of texts that is there and is a descriptor
+abbrev pub is_described : List ℕ → ℕ → Bool
+is_described file text = nat_lt text (row_count file Texts) && is_descriptor (text_units file text)
 
 -- where a row of prototypes states its parameters' types
 abbrev pub params_at : List ℕ → ℕ → ℕ
@@ -133,17 +133,21 @@ interfaces_at file row = u32_at file (row_at file Classes row + 12)
 abbrev pub no_row : ℕ
 no_row = 4294967295
 
+-- a superclass is none, or a class or an array
+abbrev pub may_extend : List ℕ → ℕ → Bool
+may_extend file superclass = superclass == no_row || is_type names_reference file superclass
+
 -- a class is no array; its superclass, where it has one, and its interfaces are classes or arrays
 abbrev pub class_fits : List ℕ → ℕ → Bool
 class_fits file row =
     is_type names_class file (u32_at file (row_at file Classes row))
-    && (if u32_at file (row_at file Classes row + 8) == no_row then true else is_type names_reference file (u32_at file (row_at file Classes row + 8)))
+    && may_extend file (u32_at file (row_at file Classes row + 8))
     && list_all (is_type names_reference file) (listed_types file (interfaces_at file row))
 
 -- the fault of a row, which is judged by itself: first that an item leaves the file, then that the row names what isn't there or is of another sort
 unfoldable pub row_fault : List ℕ → Table → ℕ → Option DexFault
 row_fault file Texts row = text_fault (text_offset file row) row (text_item_at file (text_offset file row))
-row_fault file Types row = misfit Types row (type_fits file row)
+row_fault file Types row = misfit Types row (is_described file (type_text file row))
 row_fault file Prototypes row = option_or (list_fault file (params_at file row)) (misfit Prototypes row (prototype_fits file row))
 row_fault file Fields row = misfit Fields row (field_fits file row)
 row_fault file Methods row = misfit Methods row (method_fits file row)

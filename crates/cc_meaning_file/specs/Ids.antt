@@ -65,12 +65,16 @@ pub record ClassSpelled (file : List ℕ) (row : ℕ) (stated : ClassRow) : Type
   pub members_at : stated.members_at ≡ u32_at file (row_at file Classes row + 24)
   pub values_at : stated.values_at ≡ u32_at file (row_at file Classes row + 28)
 
--- the tables of a file that has none of the faults
-pub record SpellsIds (file : List ℕ) (ids : Ids) : Type 0 where
-  pub sound : first_fault file ≡ None
+-- the six tables, each row by itself
+pub record TablesSpelled (file : List ℕ) (ids : Ids) : Type 0 where
   pub texts : EachSpelled ids.texts (row_count file Texts) (TextSpelled file)
   pub types : EachSpelled ids.types (row_count file Types) (TypeSpelled file)
   pub protos : EachSpelled ids.protos (row_count file Prototypes) (PrototypeSpelled file)
   pub fields : EachSpelled ids.fields (row_count file Fields) (FieldSpelled file)
   pub methods : EachSpelled ids.methods (row_count file Methods) (MethodSpelled file)
   pub classes : EachSpelled ids.classes (row_count file Classes) (ClassSpelled file)
+
+-- the tables of a file that has no fault
+pub record SpellsIds (file : List ℕ) (ids : Ids) : Type 0 where
+  pub sound : first_fault file ≡ None
+  pub tables : TablesSpelled file ids

@@ -1,6 +1,5 @@
-use Rattle.std.proofs.Common.{◌≡◌, ℕ, ◌+◌, None, refl, ◌∙◌, subst, arith}
+use Rattle.std.proofs.Common.{◌∙◌, arith}
 use Rattle.std.proofs.lemmas.Result.{err_from_is_err_and}
-use Rattle.cc_meaning_file.specs.Faults.{first_below}
 use Rattle.cc_dexids.proofs.Walks.{each_none, each_more, first_none, first_more, first_here, same_count}
 use Rattle.cc_dexids.proofs.walk.read_table.Goals as goal
 
