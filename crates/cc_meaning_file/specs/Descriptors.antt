@@ -1,8 +1,20 @@
 -- Pairs of UTF-16, and the descriptors of types (Dalvik Executable format, sections MemberName and TypeDescriptor).
-use Rattle.std.specs.Prelude.{ℕ, ◌+◌, ◌-◌, Bool, false, ◌&&◌, ◌||◌, not, nat_le, ◌==◌, if◌then◌else◌, List, [], ◌∷◌, length, drop, slice_index, slice_range}
+use Rattle.std.specs.Prelude.{◌≡◌, ◌≢◌, ◌⊎◌, ℕ, zero, suc, ◌+◌, ◌-◌, ◌≤◌, Bool, false, ◌&&◌, ◌||◌, not, nat_le, ◌==◌, if◌then◌else◌, List, [], ◌∷◌, ◌++◌, length, drop, slice_index, slice_range, IsTrue}
 use Rattle.std.specs.List.{list_all, list_any}
 
 -- ---- pairs
+
+abbrev pub IsHigh : ℕ → Type 0
+IsHigh u = (55296 ≤ u) × (u ≤ 56319)
+
+abbrev pub IsLow : ℕ → Type 0
+IsLow u = (56320 ≤ u) × (u ≤ 57343)
+
+-- no unit begins or ends a pair without its other half
+abbrev pub IsPaired : List ℕ → Type 0
+IsPaired [] = Unit {0}
+IsPaired (u ∷ []) = (IsHigh u → ⊥) × (IsLow u → ⊥)
+IsPaired (u ∷ v ∷ rest) = ((IsHigh u × IsLow v) × IsPaired rest) ⊎ (((IsHigh u → ⊥) × (IsLow u → ⊥)) × IsPaired (v ∷ rest))
 
 -- the first half of a pair, and the second
 abbrev pub is_high : ℕ → Bool
@@ -16,7 +28,7 @@ unfoldable pub paired_after : Bool → List ℕ → Bool
 paired_after begun [] = not begun
 paired_after begun (u ∷ us) = (if is_low u then begun else not begun) && paired_after (is_high u) us
 
--- no unit begins or ends a pair without its other half
+-- the same as a test
 abbrev pub is_paired : List ℕ → Bool
 is_paired units = paired_after false units
 
@@ -67,3 +79,34 @@ names_reference units = begins_with 76 units || begins_with 91 units
 
 abbrev pub names_value : List ℕ → Bool
 names_value units = not (begins_with 86 units)
+
+-- ---- what a descriptor is, without a test
+
+-- the descriptor of a class: `L`, a name of units that may stand in one, and `;`
+pub record IsClassDescriptor (units : List ℕ) : Type 0 where
+  pub name : List ℕ
+  pub form : units ≡ 76 ∷ name ++ 59 ∷ []
+  pub some : name ≢ []
+  pub plain : IsTrue (list_all is_name_unit name)
+  pub paired : IsPaired name
+
+-- so many `[`
+abbrev pub dimensions : ℕ → List ℕ
+dimensions zero = []
+dimensions (suc n) = 91 ∷ dimensions n
+
+-- a letter, or a class
+abbrev pub IsValue : List ℕ → Type 0
+IsValue units = ((u : ℕ) × IsTrue (is_primitive u) × (units ≡ u ∷ [])) ⊎ IsClassDescriptor units
+
+-- a value or an array of values, of at most 255 dimensions
+pub record IsValueDescriptor (units : List ℕ) : Type 0 where
+  pub dims : ℕ
+  pub base : List ℕ
+  pub form : units ≡ dimensions dims ++ base
+  pub few : dims ≤ 255
+  pub value : IsValue base
+
+-- V, a value, or an array
+abbrev pub IsDescriptor : List ℕ → Type 0
+IsDescriptor units = (units ≡ 86 ∷ []) ⊎ IsValueDescriptor units

@@ -8,3 +8,4 @@ pub mod Tables
 pub mod Descriptors
 pub mod Faults
 pub mod Ids
+pub mod TableLaws

@@ -1,5 +1,6 @@
 -- The header of a file and where its tables stand (Dalvik Executable format, `header_item`), each item at its own offset.
-use Rattle.std.specs.Prelude.{◌≡◌, ◌⊎◌, ℕ, ◌+◌, ◌*◌, ◌≤◌, ◌<◌, List, [], ◌∷◌, length, take, drop, slice_range}
+use Rattle.std.specs.Prelude.{◌≡◌, ◌⊎◌, ℕ, ◌+◌, ◌*◌, ◌≤◌, ◌<◌, List, [], ◌∷◌, length, drop, slice_range, IsTrue, nat_eq}
+use Rattle.std.specs.List.{starts_with}
 use Rattle.sha1.specs.Sha1.{sha1}
 use Rattle.cc_meaning_file.specs.Numbers.{u32_at, Within}
 use Rattle.cc_meaning_file.specs.Adler32.{adler32_of}
@@ -36,7 +37,7 @@ usual_order = 305419896
 pub record IsHeader (file : List ℕ) : Type 0 where
   pub few : length file ≤ longest_file
   pub whole : 112 ≤ length file
-  pub magic : take 8 file ≡ magic
+  pub magic : IsTrue (starts_with nat_eq file magic)
   pub order : u32_at file 40 ≡ usual_order
   pub header_size : u32_at file 36 ≡ 112
   pub file_size : u32_at file 32 ≡ length file
