@@ -16,7 +16,7 @@ use crate::walk::RowReader;
 use cc_meaning::fault::{DexFault, TextFault};
 use cc_meaning::file::{ClassRow, FieldRow, MethodRow, ProtoRow};
 use cc_meaning::lists::{Texts, Units};
-use cc_meaning_file::Table;
+use cc_meaning_file::{Table, types_listed};
 use cc_text::text;
 use std::alloc::Global;
 
@@ -125,6 +125,7 @@ impl RowReader for PrototypeReader<'_> {
 
     #[tactic(auto, unfolding(cc_meaning_file::specs::Faults::row_fault))]
     fn read_row(&self, alloc: Global, row: u32) -> Result<ProtoRow, DexFault> {
+        types_listed();
         let file = self.known.file;
         let at = row_at(file, Table::Prototypes, row);
         let result = u32_at(file, at + 4);
@@ -221,6 +222,7 @@ impl RowReader for ClassReader<'_> {
 
     #[tactic(auto, unfolding(cc_meaning_file::specs::Faults::row_fault))]
     fn read_row(&self, alloc: Global, row: u32) -> Result<ClassRow, DexFault> {
+        types_listed();
         let file = self.known.file;
         let at = row_at(file, Table::Classes, row);
         let class = u32_at(file, at);

@@ -33,7 +33,7 @@ each_once (this ∷ these) (that ∷ those) n spelled one a b =
 
 -- ---- lists of types
 
-listed_once : (file : List ℕ) (at : ℕ) (these those : List ℕ) → ListsTypes file at these → ListsTypes file at those → these ≡ those
+pub listed_once : (file : List ℕ) (at : ℕ) (these those : List ℕ) → ListsTypes file at these → ListsTypes file at those → these ≡ those
 listed_once file at these those (inl a) (inl b) = a.1 ∙ sym b.1
 listed_once file at these those (inl a) (inr b) = absurd (b.0 a.0)
 listed_once file at these those (inr a) (inl b) = absurd (a.0 b.0)

@@ -10,3 +10,5 @@ pub mod FaultLaws
 pub mod SoundLaws
 pub mod DescriptorLaws
 pub mod IdLaws
+pub mod ListLaws
+pub mod RowLaws

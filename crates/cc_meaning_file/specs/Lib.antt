@@ -9,3 +9,4 @@ pub mod Descriptors
 pub mod Faults
 pub mod Ids
 pub mod TableLaws
+pub mod RowForms

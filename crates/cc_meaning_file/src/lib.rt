@@ -11,5 +11,6 @@ pub use laws::{
 };
 pub use table::Table;
 pub use table_laws::{
-    descriptors_agree, first_faults, one_ids, pairs_agree, sound_files, texts_judged,
+    descriptors_agree, first_faults, one_ids, pairs_agree, sound_files, texts_judged, types_listed,
+    well_formed_files,
 };

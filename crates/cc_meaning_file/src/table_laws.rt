@@ -1,3 +1,4 @@
+ghost use Rattle.cc_meaning_file.specs.RowForms.{WellFormedFiles, TypesListed};
 ghost use Rattle.cc_meaning_file.specs.TableLaws.{FirstFaults, SoundFiles, TextsJudged, PairsAgree, DescriptorsAgree, OneIds};
 
 use crate::laws::{one_text, text_agrees};
@@ -39,4 +40,21 @@ pub fn one_ids()
     ensures { OneIds }
 {
     one_text();
+}
+
+/// The types that are listed at an offset are those that are spelled there.
+pub fn types_listed()
+    ensures { TypesListed }
+{}
+
+/// A file has no fault just where it is well formed: its header is one, its tables lie in it, and all that a row names is there and of its sort.
+pub fn well_formed_files()
+    ensures { WellFormedFiles }
+{
+    text_agrees();
+    texts_judged();
+    pairs_agree();
+    descriptors_agree();
+    types_listed();
+    sound_files();
 }

@@ -2,7 +2,7 @@ use Rattle.std.proofs.Common.{◌≡◌, ◌+◌, true, None, ap, subst, ◌∙�
 use Rattle.cc_meaning_file.specs.Numbers.{u32_at}
 use Rattle.cc_meaning_file.specs.Faults.{list_fault, interfaces_at, class_fits}
 use Rattle.cc_meaning_file.specs.Ids.{ListsTypes, RowStated}
-use Rattle.cc_dexids.proofs.Spelling.{class_row, types_listed}
+use Rattle.cc_dexids.proofs.Spelling.{class_row}
 use Rattle.cc_dexids.proofs.readers.ClassReaderRowReader.read_row.Goals as goal
 
 pub returns : goal.returns
@@ -24,7 +24,7 @@ returns c =
         class = c.u32_at-class.ensures ∙ ap (u32_at file) at;
         flags = c.u32_at-2.ensures ∙ ap (λ p. u32_at file (p + 4)) at;
         superclass = subst (λ stated. RowStated c.stated_row.result stated) (c.u32_at-superclass.ensures ∙ ap (λ p. u32_at file (p + 8)) at) c.stated_row.ensures;
-        interfaces = subst (λ p. ListsTypes file p c.in_ok-interfaces.interfaces) place (types_listed file c.u32_at.result c.in_ok-interfaces.interfaces read);
+        interfaces = subst (λ p. ListsTypes file p c.in_ok-interfaces.interfaces) place ((c.types_listed.ensures file c.u32_at.result c.in_ok-interfaces.interfaces).0 read);
         members_at = c.u32_at-3.ensures ∙ ap (λ p. u32_at file (p + 24)) at;
         values_at = c.u32_at-4.ensures ∙ ap (λ p. u32_at file (p + 28)) at;
       },

@@ -2,7 +2,7 @@ use Rattle.std.proofs.Common.{◌≡◌, ◌+◌, true, None, ap, subst, ◌∙�
 use Rattle.cc_meaning_file.specs.Numbers.{u32_at}
 use Rattle.cc_meaning_file.specs.Faults.{list_fault, params_at, prototype_fits}
 use Rattle.cc_meaning_file.specs.Ids.{ListsTypes}
-use Rattle.cc_dexids.proofs.Spelling.{prototype_row, types_listed}
+use Rattle.cc_dexids.proofs.Spelling.{prototype_row}
 use Rattle.cc_dexids.proofs.readers.PrototypeReaderRowReader.read_row.Goals as goal
 
 pub returns-then-fits_prototype : goal.returns-then-fits_prototype
@@ -21,6 +21,6 @@ returns-then-fits_prototype c =
       prototype_row file c.args.row stands fits,
       record {
         result = gives;
-        params = subst (λ p. ListsTypes file p c.in_ok-params.params) place (types_listed file c.u32_at.result c.in_ok-params.params read);
+        params = subst (λ p. ListsTypes file p c.in_ok-params.params) place ((c.types_listed.ensures file c.u32_at.result c.in_ok-params.params).0 read);
       },
     )
