@@ -7,6 +7,18 @@ ghost use Rattle.cc_meaning_file.specs.Descriptors.{is_high, is_low, is_paired, 
 /// The most dimensions that an array has.
 const MOST_DIMS: usize = 255;
 
+/// `[`, which begins an array's descriptor.
+const ARRAY: u16 = 91;
+
+/// `L`, which begins a class's descriptor.
+const CLASS: u16 = 76;
+
+/// `;`, which ends a class's descriptor.
+const CLASS_END: u16 = 59;
+
+/// `V`, the descriptor of no value.
+const VOID: u16 = 86;
+
 /// Whether a unit is the first half of a pair.
 fn is_high(unit: u16) -> bool
     ensures { result ≡ is_high unit }
@@ -36,11 +48,11 @@ pub fn is_paired(units: &[u16]) -> bool
     !begun
 }
 
-/// Whether a unit may stand in a class's name.
+/// Whether a unit may stand in a class's name: no `;`, `[`, `(`, `)` or `:`.
 fn is_name_unit(unit: u16) -> bool
     ensures { result ≡ is_name_unit unit }
 {
-    !matches!(unit, 59 | 91 | 40 | 41 | 58)
+    !matches!(unit, CLASS_END | ARRAY | 40 | 41 | 58)
 }
 
 /// Whether each unit may stand in a class's name.
@@ -59,14 +71,14 @@ fn is_class_descriptor(units: &[u16]) -> bool
         return false;
     }
     let last = units.len() - 1;
-    if units[0] != 76 || units[last] != 59 {
+    if units[0] != CLASS || units[last] != CLASS_END {
         return false;
     }
     let name = &units[1..last];
     has_name_units(name) && is_paired(name)
 }
 
-/// Whether a unit is a letter that stands for a type of numbers.
+/// Whether a unit is a letter that stands for a type: Z, B, S, C, I, J, F or D.
 fn is_primitive(unit: u16) -> bool
     ensures { result ≡ is_primitive unit }
 {
@@ -79,7 +91,7 @@ fn dims_of(units: &[u16]) -> usize
     ensures within { result ≤ length units.now }
 {
     for (place, unit) in units.iter().enumerate() {
-        if *unit != 91 {
+        if *unit != ARRAY {
             return place;
         }
     }
@@ -92,7 +104,7 @@ fn is_base(dims: usize, base: &[u16]) -> bool
 {
     match base {
         [] => false,
-        [unit] => is_primitive(*unit) || (dims == 0 && *unit == 86),
+        [unit] => is_primitive(*unit) || (dims == 0 && *unit == VOID),
         _ => is_class_descriptor(base),
     }
 }
@@ -111,19 +123,19 @@ pub fn is_descriptor(units: &[u16]) -> bool
 pub fn names_class(units: &[u16]) -> bool
     ensures { result ≡ names_class units.now }
 {
-    units.first() == Some(&76)
+    matches!(units, [CLASS, ..])
 }
 
 /// Whether a descriptor is a class's or an array's.
 pub fn names_reference(units: &[u16]) -> bool
     ensures { result ≡ names_reference units.now }
 {
-    matches!(units, [76 | 91, ..])
+    matches!(units, [CLASS | ARRAY, ..])
 }
 
 /// Whether a descriptor isn't V.
 pub fn names_value(units: &[u16]) -> bool
     ensures { result ≡ names_value units.now }
 {
-    !matches!(units, [86, ..])
+    !matches!(units, [VOID, ..])
 }

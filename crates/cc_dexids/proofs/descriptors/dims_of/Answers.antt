@@ -2,14 +2,14 @@ use Rattle.std.proofs.Common.{arith}
 use Rattle.cc_dexids.proofs.Units.{dims_more, dims_end, dims_all}
 use Rattle.cc_dexids.proofs.descriptors.dims_of.Goals as goal
 
-pub returns-then-unit-ne91-clause-exact : goal.returns-then-unit-ne91-clause-exact
-returns-then-unit-ne91-clause-exact c =
-    let end = dims_end c.args.units.now c.loop-place.place c.loop-place-test.true c.if-unit-ne91.true in
+pub returns-then-unit-ne-ARRAY-clause-exact : goal.returns-then-unit-ne-ARRAY-clause-exact
+returns-then-unit-ne-ARRAY-clause-exact c =
+    let end = dims_end c.args.units.now c.loop-place.place c.loop-place-test.true c.if-unit-ne-ARRAY.true in
     omega (arith, end, c.loop-place.invariant)
 
 pub loop-place-preserved : goal.loop-place-preserved
 loop-place-preserved c =
-    let more = dims_more c.args.units.now c.loop-place.place c.loop-place-test.true c.if-unit-ne91.false in
+    let more = dims_more c.args.units.now c.loop-place.place c.loop-place-test.true c.if-unit-ne-ARRAY.false in
     omega (arith, more, c.loop-place.invariant)
 
 pub returns-clause-exact : goal.returns-clause-exact
