@@ -6,3 +6,9 @@ pub mod FormFaults
 pub mod TextLaws
 pub mod TextFaults
 pub mod ItemLaws
+pub mod FaultLaws
+pub mod SoundLaws
+pub mod DescriptorLaws
+pub mod IdLaws
+pub mod ListLaws
+pub mod RowLaws

@@ -4,3 +4,9 @@ pub mod Mutf8
 pub mod Texts
 pub mod Adler32
 pub mod Laws
+pub mod Tables
+pub mod Descriptors
+pub mod Faults
+pub mod Ids
+pub mod TableLaws
+pub mod RowForms

@@ -1,0 +1,5 @@
+pub mod Placed
+pub mod Units
+pub mod Walks
+pub mod Knowing
+pub mod Spelling
