@@ -1,0 +1,9 @@
+//! Instructions of Dalvik bytecode: how they reckon.
+#![tactic(auto)]
+
+mod arithmetic;
+
+pub use arithmetic::{
+    DivideByZero, compare_long, int_op, int_to_byte, int_to_char, int_to_long, int_to_short,
+    int_unary, long_op, long_to_int, long_unary,
+};

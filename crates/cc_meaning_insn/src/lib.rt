@@ -1,0 +1,2 @@
+//! What units of code spell, and how instructions reckon.
+#![tactic(auto)]
