@@ -1,1 +1,4 @@
 mod Values
+mod Table
+mod Going
+mod Fronts

@@ -1,1 +1,5 @@
 pub mod Arithmetic
+pub mod Opcodes
+pub mod Forms
+pub mod Payloads
+pub mod Decoded
