@@ -2,3 +2,4 @@ mod Values
 mod Table
 mod Going
 mod Fronts
+mod Spelled

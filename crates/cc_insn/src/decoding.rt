@@ -1,8 +1,10 @@
 //! Instructions one by one.
 //! Source: Dalvik bytecode, section Summary of bytecode set; Dalvik executable instruction formats.
 
-ghost use Rattle.std.specs.Prelude.{◌≡◌, ◌≢◌, ◌<◌, length, IfOk, IfErr, IsErrOf};
+ghost use Rattle.std.specs.Prelude.{◌≡◌, ◌≢◌, ℕ, ◌<◌, length, IfOk, IfErr, IsErrOf};
+ghost use Rattle.cc_meaning.specs.declared.instruction.Insn.{Insn};
 ghost use Rattle.cc_meaning_insn.specs.Decoded.{decoded, of_opcode};
+ghost use Rattle.cc_meaning_insn.specs.Spelling.{Spells};
 ghost use Rattle.cc_insn.specs.Gives.{Gives, IsOfList};
 
 use crate::forms::{joined, long_of, one_unit, three_units, two_units};
@@ -11,7 +13,7 @@ use crate::opcodes::opcode_at;
 use crate::payloads::{array_payload, packed_payload, sparse_payload};
 use cc_meaning::fault::InsnFault;
 use cc_meaning::instruction::Insn;
-use cc_meaning_insn::Opcode;
+use cc_meaning_insn::{Opcode, insn_agrees};
 use std::alloc::Global;
 
 /// The instruction at `at`, and how many units it takes. Rows of the file stand where it names a text, a type, a field or a method. Memory is taken only
@@ -20,7 +22,10 @@ pub fn decode(alloc: Global, units: &[u16], at: usize) -> Result<(Insn, usize), 
     ensures ok { IfOk result (λ found. decoded units.now at ≡ Ok found) }
     ensures err { IfErr result (λ fault. fault ≢ InsnFault.Memory → decoded units.now at ≡ Err fault) }
     ensures memory { IsErrOf result InsnFault.Memory → IsOfList (decoded units.now at) }
+    ensures spelled { IfOk result (λ found. Spells units.now at found.0 found.1) }
+    ensures refused { IfErr result (λ fault. fault ≢ InsnFault.Memory → (insn : Insn) (size : ℕ) → ¬ Spells units.now at insn size) }
 {
+    insn_agrees();
     read(alloc, units, at)
 }
 

@@ -3,3 +3,5 @@ pub mod Opcodes
 pub mod Forms
 pub mod Payloads
 pub mod Decoded
+pub mod Spelling
+pub mod Laws

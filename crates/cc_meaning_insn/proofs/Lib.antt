@@ -1,0 +1,5 @@
+mod Signed
+mod FormLaws
+mod OpcodeLaws
+mod PayloadLaws
+mod InsnLaws
