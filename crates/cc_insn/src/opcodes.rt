@@ -10,6 +10,18 @@ use cc_meaning_insn::{
     Triple, TwoUnits,
 };
 
+/// `rsub-int`: a literal of 16 bits less a register.
+const REVERSED_16: Opcode = Opcode::Two(TwoUnits::F22s {
+    op: IntOp::Sub,
+    reversed: true,
+});
+
+/// `rsub-int/lit8`: a literal of 8 bits less a register.
+const REVERSED_8: Opcode = Opcode::Two(TwoUnits::F22b {
+    op: IntOp::Sub,
+    reversed: true,
+});
+
 /// What each opcode stands for.
 static OPCODES: [Opcode; 256] = [
     // 00: nop
@@ -267,10 +279,7 @@ static OPCODES: [Opcode; 256] = [
         op: IntOp::Add,
         reversed: false,
     }),
-    Opcode::Two(TwoUnits::F22s {
-        op: IntOp::Sub,
-        reversed: true,
-    }),
+    REVERSED_16,
     Opcode::Two(TwoUnits::F22s {
         op: IntOp::Mul,
         reversed: false,
@@ -300,10 +309,7 @@ static OPCODES: [Opcode; 256] = [
         op: IntOp::Add,
         reversed: false,
     }),
-    Opcode::Two(TwoUnits::F22b {
-        op: IntOp::Sub,
-        reversed: true,
-    }),
+    REVERSED_8,
     Opcode::Two(TwoUnits::F22b {
         op: IntOp::Mul,
         reversed: false,

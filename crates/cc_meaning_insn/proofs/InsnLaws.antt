@@ -15,7 +15,7 @@ use Rattle.cc_meaning_insn.specs.Laws.{AreUnits, InsnAgrees}
 use Rattle.cc_meaning_insn.proofs.OpcodeLaws.{opcode_sound, opcode_only}
 use Rattle.cc_meaning_insn.proofs.PayloadLaws.{Part, packed_sound, packed_only, sparse_sound, sparse_only, array_sound, array_only, small_tail}
 
-front_nil : front_of [] ≡ Err fault.CutOff
+pub front_nil : front_of [] ≡ Err fault.CutOff
 unfolding front_of
 front_nil = refl
 
@@ -32,12 +32,12 @@ unfolding front_of
 front-array rest first e = grind (arith, nat_tests)
 
 -- the unit begins no payload
-record IsPlain (first : ℕ) : Type 0 where
-  packed : first ≢ 256
-  sparse : first ≢ 512
-  array : first ≢ 768
+pub record IsPlain (first : ℕ) : Type 0 where
+  pub packed : first ≢ 256
+  pub sparse : first ≢ 512
+  pub array : first ≢ 768
 
-front-opcode : (rest : List ℕ) (first : ℕ) → IsPlain first → front_of (first ∷ rest) ≡ of_opcode (opcode_at (first % 256)) (first ∷ rest)
+pub front-opcode : (rest : List ℕ) (first : ℕ) → IsPlain first → front_of (first ∷ rest) ≡ of_opcode (opcode_at (first % 256)) (first ∷ rest)
 unfolding front_of
 front-opcode rest first p =
     let a = p.packed in

@@ -3,3 +3,6 @@ mod FormLaws
 mod OpcodeLaws
 mod PayloadLaws
 mod InsnLaws
+mod FaultLaws
+mod TableLaws
+mod ArithmeticLaws

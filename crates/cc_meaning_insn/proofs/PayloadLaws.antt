@@ -286,7 +286,7 @@ array_sound first (w ∷ low ∷ high ∷ tail) all f insn size e =
       })));
     }
 
-array_there : (units : List ℕ) → array_size units ≤ length units → is_width (element_width units) ≡ true →
+pub array_there : (units : List ℕ) → array_size units ≤ length units → is_width (element_width units) ≡ true →
     array_payload units
     ≡ Ok (ArrayPayload (element_width units) (take (byte_count units) (bytes_of (slice_range units 4 (array_size units)))), array_size units)
 unfolding array_payload

@@ -8,4 +8,6 @@ pub use forms::{
     Bare, Constant, Distant, Listed, Named, OneUnit, Opcode, Pair, PairNamed, Single, ThreeUnits,
     Triple, TwoUnits,
 };
-pub use laws::insn_agrees;
+pub use laws::{
+    division_agrees, floor_agrees, insn_agrees, insn_faults, opcode_table, wrap_agrees,
+};

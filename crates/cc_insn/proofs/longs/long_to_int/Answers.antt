@@ -3,7 +3,7 @@ use Rattle.std.specs.Int.{w32, w64}
 use Rattle.std.proofs.lemmas.Int.{to_z-of_z}
 use Rattle.cc_meaning_insn.specs.Arithmetic.{modulo}
 use Rattle.cc_insn.proofs.Values.{wrap_is}
-use Rattle.cc_insn.proofs.arithmetic.long_to_int.Goals as goal
+use Rattle.cc_insn.proofs.longs.long_to_int.Goals as goal
 
 pub returns : goal.returns
 returns c =

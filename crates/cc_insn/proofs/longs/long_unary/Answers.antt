@@ -2,7 +2,7 @@ use Rattle.std.proofs.Common.{FitsSigned, rules, sym, ap, ◌∙◌}
 use Rattle.std.specs.Int.{w64, int_wrapping_neg}
 use Rattle.std.proofs.lemmas.Int.{to_z-of_z, wrapping_neg_is}
 use Rattle.cc_meaning_insn.specs.Arithmetic.{unary_value}
-use Rattle.cc_insn.proofs.arithmetic.long_unary.Goals as goal
+use Rattle.cc_insn.proofs.longs.long_unary.Goals as goal
 
 pub returns-in-Negate : goal.returns-in-Negate
 returns-in-Negate c =

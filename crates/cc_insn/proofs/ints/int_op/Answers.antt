@@ -3,7 +3,7 @@ use Rattle.std.specs.Int.{w32, int_shl, int_wrapping_div}
 use Rattle.std.proofs.lemmas.Int.{to_z-of_z, wrapping_add_is, wrapping_sub_is}
 use Rattle.cc_meaning_insn.specs.Arithmetic.{op_value, modulo}
 use Rattle.cc_insn.proofs.Values.{bits_modulo-32, low_bits-32, shl_is, div_is-32, ushr_is-32}
-use Rattle.cc_insn.proofs.arithmetic.int_op.Goals as goal
+use Rattle.cc_insn.proofs.ints.int_op.Goals as goal
 
 pub returns-in-Add-clause-value : goal.returns-in-Add-clause-value
 returns-in-Add-clause-value c =

@@ -3,7 +3,7 @@ use Rattle.std.specs.Int.{w64, int_shl, int_wrapping_div}
 use Rattle.std.proofs.lemmas.Int.{to_z-of_z, wrapping_add_is, wrapping_sub_is}
 use Rattle.cc_meaning_insn.specs.Arithmetic.{op_value, modulo}
 use Rattle.cc_insn.proofs.Values.{bits_modulo-64, low_bits-64, shl_is, div_is-64, ushr_is-64}
-use Rattle.cc_insn.proofs.arithmetic.long_op.Goals as goal
+use Rattle.cc_insn.proofs.longs.long_op.Goals as goal
 
 pub returns-in-Add-clause-value : goal.returns-in-Add-clause-value
 returns-in-Add-clause-value c =

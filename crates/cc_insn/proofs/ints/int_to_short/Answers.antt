@@ -2,7 +2,7 @@ use Rattle.std.proofs.Common.{◌%◌, FitsSigned, rules, to_z, of_z, sym, ap, �
 use Rattle.std.specs.Int.{w16, w32}
 use Rattle.std.proofs.lemmas.Int.{to_z-of_z}
 use Rattle.cc_insn.proofs.Values.{low_bits-16, wrap_is}
-use Rattle.cc_insn.proofs.arithmetic.int_to_short.Goals as goal
+use Rattle.cc_insn.proofs.ints.int_to_short.Goals as goal
 
 pub returns : goal.returns
 returns c =
