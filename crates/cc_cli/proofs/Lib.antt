@@ -1,12 +1,3 @@
-pub mod Running
 pub mod Showing
 pub mod Planning
 pub mod Statuses
-pub mod RowLemmas
-pub mod TextLemmas
-pub mod NumberLemmas
-pub mod DescriptorLemmas
-pub mod InsnLemmas
-pub mod CodeLemmas
-pub mod UsesLemmas
-pub mod ReaderLemmas

@@ -8,11 +8,11 @@ ghost use Rattle.cc_cli.specs.Plans.{file_named, BytesPlan, RunPlan, ran_plan};
 ghost use Rattle.cc_cli.specs.Runs.{CallPlan, WordsPlan};
 
 use crate::fault::Fault;
-use crate::plain;
 use cc_meaning::lists::Bytes;
 use cc_meaning::report::Limits;
 use cc_meaning_plain::{Plain, law_plain_reports, law_plain_returns};
 use cc_outside::{ReadEnd, Shelf};
+use cc_plain::{read_plain, run};
 use cc_plan::Plan;
 use std::alloc::{AllocError, Global};
 
@@ -39,7 +39,7 @@ fn file_named(words: &[String]) -> Option<&str>
 fn ran_plan(alloc: Global, plain: &Plain) -> Result<Plan, AllocError>
     ensures { IfOk result (λ plan. plan ≡ ran_plan (plain_report plain.now default_limits)) }
 {
-    let report = plain::run(alloc, plain, DEFAULT_LIMITS)?;
+    let report = run(alloc, plain, DEFAULT_LIMITS)?;
     Ok(Plan {
         status: 0,
         out: report.out,
@@ -53,7 +53,7 @@ fn run_bytes(alloc: Global, name: &str, file: &[u8]) -> Result<Plan, AllocError>
 {
     law_plain_reports();
     law_plain_returns();
-    match plain::read_plain(alloc, file)? {
+    match read_plain(alloc, file)? {
         Some(plain) => ran_plan(alloc, &plain),
         None => Fault::NotBuilt.plan(alloc, name),
     }

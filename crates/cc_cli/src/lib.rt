@@ -3,7 +3,6 @@
 
 mod command;
 mod fault;
-mod plain;
 mod run;
 mod shown;
 

@@ -1,4 +1,4 @@
-pub mod Functions
+pub mod Given
 pub mod Stages
 pub mod RowLemmas
 pub mod TextLemmas

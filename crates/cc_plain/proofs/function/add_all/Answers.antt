@@ -1,6 +1,6 @@
 use Rattle.std.proofs.Common.{rules}
 use Rattle.cc_meaning_plain.specs.Text.{numbers_after}
-use Rattle.cc_plain.proofs.Functions.{adds_on, adds_to_end}
+use Rattle.cc_plain.proofs.Given.{adds_on, adds_to_end}
 use Rattle.cc_plain.proofs.function.add_all.Goals as goal
 
 pub loop-insn-preserved : goal.loop-insn-preserved

@@ -1,5 +1,5 @@
 use Rattle.std.proofs.Common.{rules, to_z, of_z, w32}
-use Rattle.cc_plain.proofs.Functions.{gives_none, gives_value}
+use Rattle.cc_plain.proofs.Given.{gives_none, gives_value}
 use Rattle.cc_plain.proofs.function.run_function.Goals as goal
 
 pub returns-in_default : goal.returns-in_default

@@ -1,0 +1,5 @@
+mod Values
+mod Table
+mod Going
+mod Fronts
+mod Spelled
