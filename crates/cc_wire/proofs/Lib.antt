@@ -7,3 +7,4 @@ pub mod Behinds
 pub mod Wholes
 pub mod Ends
 pub mod Entries
+pub mod Pieces

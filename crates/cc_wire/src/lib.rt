@@ -6,7 +6,9 @@ mod numbers;
 mod parts;
 mod reader;
 mod run;
+mod spell;
 
 pub use back::decode_back;
 pub use numbers::function_numbered;
 pub use run::decode_run;
+pub use spell::{encode_back, encode_run};
