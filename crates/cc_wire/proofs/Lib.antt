@@ -5,3 +5,6 @@ pub mod Chains
 pub mod Heads
 pub mod Behinds
 pub mod Wholes
+pub mod Ends
+pub mod Entries
+pub mod Pieces

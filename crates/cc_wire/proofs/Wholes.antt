@@ -1,10 +1,12 @@
 -- An image as a whole: nothing stands behind it, and its counters are judged.
-use Rattle.std.proofs.Common.{◌≡◌, ℕ, Bool, true, false, List, [], ◌∷◌, length, Result, Ok, Err, refl, sym, ap, ◌∙◌, arith}
+use Rattle.std.proofs.Common.{◌≡◌, ℕ, Bool, true, false, List, [], ◌∷◌, length, Option, Result, Ok, Err, refl, sym, ap, ◌∙◌, arith, slice_get}
+use Rattle.cc_meaning.specs.declared.program.DexType.{DexType}
+use Rattle.cc_meaning.specs.declared.image.BackImage.{BackImage}
 use Rattle.cc_meaning.specs.declared.program.Program.{Program}
 use Rattle.cc_meaning.specs.declared.fault.ImageFault.{ImageFault}
 use Rattle.cc_meaning.specs.declared.fault.ImageFault.TheVariants.{Trailing, BadCounter}
 use Rattle.cc_meaning.specs.declared.image.RunImage.{RunImage}
-use Rattle.cc_meaning_images.specs.Reading.{Got, got, wrong, reading, fitting, whole, RunHead, run_head, run_behind, run_fits, read_run}
+use Rattle.cc_meaning_images.specs.Reading.{Got, got, wrong, reading, fitting, whole, RunHead, run_head, run_behind, run_fits, read_run, result_of, BackHead, back_head, back_behind, back_fits, read_back}
 use Rattle.cc_wire.proofs.Chains.{got_on, wrong_on}
 
 -- ---- any image
@@ -55,3 +57,30 @@ module _ (p : Program) (bytes : List ℕ) where
       pub run_good : length rest ≡ 0 → run_fits image ≡ true → read_run p bytes ≡ Ok image
       unfolding read_run
       run_good h good = whole_good run_fits all image at rest (got_on _ _ head a r e ∙ b) h good
+
+-- ---- the image of an end
+
+module _ (p : Program) (run : RunImage) (bytes : List ℕ) (type : Option DexType) (gives : result_of (slice_get p.methods run.method) ≡ type) (before : List ℕ) (same : run.statuses ≡ before) where
+  abbrev all_back : Got BackImage
+  all_back = reading (back_head type 0 bytes) (λ head at rest. back_behind p before head at rest)
+
+  is_all : read_back p run bytes ≡ whole (back_fits run) all_back
+  unfolding read_back
+  is_all = rw (gives, same) refl
+
+  pub back_wrong_head : (f : ImageFault) → back_head type 0 bytes ≡ wrong f → read_back p run bytes ≡ Err f
+  back_wrong_head f e = is_all ∙ whole_wrong (back_fits run) all_back f (wrong_on _ _ f e)
+
+  module _ (head : BackHead) (a : ℕ) (r : List ℕ) (e : back_head type 0 bytes ≡ got head a r) where
+    pub back_wrong_behind : (f : ImageFault) → back_behind p before head a r ≡ wrong f → read_back p run bytes ≡ Err f
+    back_wrong_behind f w = is_all ∙ whole_wrong (back_fits run) all_back f (got_on _ _ head a r e ∙ w)
+
+    module _ (image : BackImage) (at : ℕ) (rest : List ℕ) (b : back_behind p before head a r ≡ got image at rest) where
+      pub back_trailing : (length rest ≡ 0 → ⊥) → read_back p run bytes ≡ Err Trailing
+      back_trailing h = is_all ∙ whole_trailing (back_fits run) all_back image at rest (got_on _ _ head a r e ∙ b) h
+
+      pub back_bad : length rest ≡ 0 → back_fits run image ≡ false → read_back p run bytes ≡ Err BadCounter
+      back_bad h bad = is_all ∙ whole_bad (back_fits run) all_back image at rest (got_on _ _ head a r e ∙ b) h bad
+
+      pub back_good : length rest ≡ 0 → back_fits run image ≡ true → read_back p run bytes ≡ Ok image
+      back_good h good = is_all ∙ whole_good (back_fits run) all_back image at rest (got_on _ _ head a r e ∙ b) h good
