@@ -288,7 +288,8 @@ pub fn function_name(
         return Ok(None);
     }
     let at = row_at(file, Table::Methods, row);
-    if !is_named(alloc, file, u32::from(u16_at(file, at)), class)? {
+    let type_row = u32::from(u16_at(file, at));
+    if !is_named(alloc, file, type_row, class)? {
         return Ok(None);
     }
     if !is_prototype_row(file, u32::from(u16_at(file, at + 2)), b"I", b"I") {
