@@ -1,6 +1,7 @@
 -- The parts of a Hello.
 use Rattle.std.specs.Prelude.{◌≡◌, ℕ, List}
 use Rattle.cc_meaning_plain.specs.declared.plain.Plain.{Plain}
+use Rattle.cc_meaning_plain.specs.Laws.{AreBytes}
 use Rattle.cc_meaning_plain.specs.Plain.{IsPlain}
 use Rattle.cc_meaning_clone.specs.Hello.{NamesMain, no_script}
 
@@ -9,3 +10,7 @@ pub record FitsHello (main file script : List ℕ) (plain : Plain) : Type 0 wher
   pub is_plain : IsPlain file plain
   pub names_main : NamesMain main plain
   pub no_classes : script ≡ no_script
+
+-- some bytes are this plain file
+abbrev pub IsOfFile : Plain → Type 0
+IsOfFile plain = (file : List ℕ) × AreBytes file × IsPlain file plain

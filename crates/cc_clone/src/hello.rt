@@ -6,7 +6,7 @@ ghost use Rattle.cc_meaning_plain.specs.Laws.{PlainOnce};
 ghost use Rattle.cc_meaning_clone.specs.Hello.{NamesMain, IsJudged};
 ghost use Rattle.cc_clone.specs.Parts.{FitsHello};
 
-use crate::file::plain_of;
+use crate::job::Job;
 use crate::named::is_named;
 use crate::payload::{Hello, parse};
 use cc_meaning_clone::hello_laws;
@@ -30,7 +30,7 @@ fn names_main(main: &[u8], plain: &Plain) -> bool
 }
 
 /// The plain file of a Hello, where its script and its main class fit.
-fn judge_parts(alloc: Global, hello: &Hello<'_>) -> Result<Option<Plain>, AllocError>
+fn judge_parts(alloc: Global, hello: &Hello<'_>) -> Result<Option<Job>, AllocError>
     ensures parts { IfOk result (λ read. MatchOption read
         ((plain : PlainFile) → FitsHello hello.now.main.now hello.now.file.now hello.now.script.now plain → ⊥)
         (λ plain. FitsHello hello.now.main.now hello.now.file.now hello.now.script.now plain)) }
@@ -39,19 +39,19 @@ fn judge_parts(alloc: Global, hello: &Hello<'_>) -> Result<Option<Plain>, AllocE
     if hello.script != NO_SCRIPT {
         return Ok(None);
     }
-    let plain = match plain_of(alloc, hello.file)? {
-        Some(plain) => plain,
+    let job = match Job::of(alloc, hello.file)? {
+        Some(job) => job,
         None => return Ok(None),
     };
-    if names_main(hello.main, &plain) {
-        Ok(Some(plain))
+    if names_main(hello.main, job.plain()) {
+        Ok(Some(job))
     } else {
         Ok(None)
     }
 }
 
 /// The plain file of a Hello, or the status by which it is refused.
-pub(crate) fn judge(alloc: Global, payload: &[u8]) -> Result<Result<Plain, u8>, AllocError>
+pub(crate) fn judge(alloc: Global, payload: &[u8]) -> Result<Result<Job, u8>, AllocError>
     ensures judged { IfOk result (λ verdict. IsJudged payload.now verdict) }
     // There is no other verdict.
     ensures only { IfOk result (λ verdict. (other : Result PlainFile ℕ) → IsJudged payload.now other → other ≡ verdict) }
@@ -62,7 +62,7 @@ pub(crate) fn judge(alloc: Global, payload: &[u8]) -> Result<Result<Plain, u8>, 
         None => return Ok(Err(MALFORMED)),
     };
     match judge_parts(alloc, &hello)? {
-        Some(plain) => Ok(Ok(plain)),
+        Some(job) => Ok(Ok(job)),
         None => Ok(Err(ANOTHER_FORM)),
     }
 }

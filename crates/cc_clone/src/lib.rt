@@ -1,8 +1,8 @@
 //! A node that answers the frames of a stream as a clone of plain files.
 #![tactic(auto)]
 
-mod file;
 mod hello;
+mod job;
 mod named;
 mod node;
 mod payload;

@@ -8,11 +8,11 @@ ghost use Rattle.cc_meaning_plain.specs.declared.plain.Plain.{Plain as PlainFile
 ghost use Rattle.cc_meaning_clone.specs.Plain.{plain_clone, IsVerdict, HasVerdict};
 ghost use Rattle.cc_clone.specs.Node.{cause_of};
 
+use crate::job::Job;
 use crate::stream;
 use cc_framing::FrameReader;
 use cc_meaning::fault::Memory;
 use cc_meaning::travel::CloneEnd;
-use cc_meaning_plain::Plain;
 use std::alloc::{AllocError, Global};
 use std::marker::Model;
 
@@ -20,7 +20,7 @@ use std::marker::Model;
 /// present frame, or closed.
 #[derive(Drop)]
 pub struct CloneNode {
-    job: Option<Plain>,
+    job: Option<Job>,
     reader: FrameReader,
     replies: Vec<u8>,
     end: Option<CloneEnd>,

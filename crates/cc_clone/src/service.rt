@@ -6,11 +6,11 @@ ghost use Rattle.cc_meaning_clone.specs.Plain.{place_in};
 ghost use Rattle.cc_clone.specs.Node.{served_by, IsShort, Answers, IsAnswered};
 
 use crate::hello::judge;
+use crate::job::Job;
 use crate::run::{RunEnd, serve_run};
 use cc_meaning::fault::Memory;
 use cc_meaning::frame::Frame;
 use cc_meaning::travel::CloneEnd;
-use cc_meaning_plain::Plain;
 use std::alloc::{AllocError, Global};
 
 const HELLO: u8 = 1;
@@ -63,17 +63,17 @@ fn refuse(
 /// Answers to the verdict on a Hello.
 fn greet(
     alloc: Global,
-    verdict: Result<Plain, u8>,
-    job: &mut Option<Plain>,
+    verdict: Result<Job, u8>,
+    job: &mut Option<Job>,
     replies: &mut Vec<u8>,
 ) -> Result<Option<CloneEnd>, AllocError>
     ensures ok { IfOk result (λ end. Answers (to_hello verdict) replies.old.items replies.new.items end job.new) }
     ensures err { OnErr result (replies.new.items ≡ replies.old.items) }
 {
     match verdict {
-        Ok(plain) => {
+        Ok(accepted) => {
             say(alloc, READY, &[VERSION], replies)?;
-            *job = Some(plain);
+            *job = Some(accepted);
             Ok(None)
         }
         Err(status) => refuse(alloc, status, CloneEnd::BadHello(status), replies),
@@ -83,12 +83,12 @@ fn greet(
 /// Answers to what came of a Run.
 fn give_back(
     alloc: Global,
-    plain: &Plain,
+    job: &Job,
     end: RunEnd,
     replies: &mut Vec<u8>,
 ) -> Result<Option<CloneEnd>, AllocError>
     requires { IsShort end }
-    ensures ok { IfOk result (λ cause. Answers (to_run (served_by plain.now end)) replies.old.items replies.new.items cause (Some plain.now)) }
+    ensures ok { IfOk result (λ cause. Answers (to_run (served_by job.now end)) replies.old.items replies.new.items cause (Some job.now)) }
     ensures err { OnErr result (replies.new.items ≡ replies.old.items) }
 {
     match end {
@@ -104,7 +104,7 @@ fn give_back(
 /// Answers to the first frame.
 fn meet(
     alloc: Global,
-    job: &mut Option<Plain>,
+    job: &mut Option<Job>,
     frame: &Frame,
     replies: &mut Vec<u8>,
 ) -> Result<Option<CloneEnd>, AllocError>
@@ -121,32 +121,34 @@ fn meet(
 /// Answers to a frame after the first.
 fn work(
     alloc: Global,
-    plain: &Plain,
+    job: &Job,
     frame: &Frame,
     replies: &mut Vec<u8>,
 ) -> Result<Option<CloneEnd>, AllocError>
-    ensures ok { IfOk result (λ end. IsAnswered (Serving plain.now) frame.now replies.old.items replies.new.items end (Some plain.now)) }
+    requires { length frame.now.payload ≤ 67108864 }
+    ensures ok { IfOk result (λ end. IsAnswered (Serving job.now) frame.now replies.old.items replies.new.items end (Some job.now)) }
     ensures err { OnErr result (replies.new.items ≡ replies.old.items) }
 {
     if frame.kind != RUN {
         return Ok(Some(CloneEnd::BadOrder(frame.kind)));
     }
-    let end = serve_run(alloc, plain, frame.payload.as_slice())?;
-    give_back(alloc, plain, end, replies)
+    let end = serve_run(alloc, job, frame.payload.as_slice())?;
+    give_back(alloc, job, end, replies)
 }
 
 /// Answers a frame, and says why the clone closes, where it does. Without memory nothing is said.
 pub(crate) fn serve(
     alloc: Global,
-    job: &mut Option<Plain>,
+    job: &mut Option<Job>,
     frame: Frame,
     replies: &mut Vec<u8>,
 ) -> Result<Option<CloneEnd>, AllocError>
+    requires { length frame.payload ≤ 67108864 }
     ensures ok { IfOk result (λ end. IsAnswered (place_in job.old) frame replies.old.items replies.new.items end job.new) }
     ensures err { OnErr result (replies.new.items ≡ replies.old.items) }
 {
     match job {
         None => meet(alloc, job, &frame, replies),
-        Some(plain) => work(alloc, plain, &frame, replies),
+        Some(job) => work(alloc, job, &frame, replies),
     }
 }

@@ -3,13 +3,13 @@
 ghost use Rattle.std.specs.Prelude.{◌≡◌, ◌≤◌, length, drop, None, IfOk, OnErr};
 ghost use Rattle.cc_clone.specs.Node.{next_in, IsHeld, standing_at, open_at, StepsBy, Comes, IsDue};
 
+use crate::job::Job;
 use crate::service::serve;
 use cc_framing::FrameReader;
 use cc_meaning::fault::FrameFault;
 use cc_meaning::travel::CloneEnd;
 use cc_meaning_clone::plain_laws;
 use cc_meaning_nodes::frame_laws;
-use cc_meaning_plain::Plain;
 use std::alloc::{AllocError, Global};
 
 /// So many bytes of the piece are done, or the clone closes.
@@ -21,7 +21,7 @@ enum Progress {
 /// Reads what belongs to the present frame, and answers it where it is whole.
 fn step(
     alloc: Global,
-    job: &mut Option<Plain>,
+    job: &mut Option<Job>,
     reader: &mut FrameReader,
     replies: &mut Vec<u8>,
     piece: &[u8],
@@ -33,6 +33,7 @@ fn step(
 {
     plain_laws::talk_steps();
     plain_laws::verdict_steps();
+    frame_laws::begins_with_whole();
     let count = match reader.feed(piece) {
         Ok(count) => count,
         Err(FrameFault::Memory) => return Err(AllocError),
@@ -50,7 +51,7 @@ fn step(
 /// Reads a whole piece, and says why the clone closes, where it does: the rest of the piece is left then.
 pub(crate) fn feed(
     alloc: Global,
-    job: &mut Option<Plain>,
+    job: &mut Option<Job>,
     reader: &mut FrameReader,
     replies: &mut Vec<u8>,
     piece: &[u8],

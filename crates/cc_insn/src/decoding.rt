@@ -16,6 +16,9 @@ use cc_meaning::instruction::Insn;
 use cc_meaning_insn::{Opcode, insn_agrees};
 use std::alloc::Global;
 
+/// How many arguments an instruction can name one by one.
+const MOST_LISTED: u8 = 5;
+
 /// The instruction at `at`, and how many units it takes. Rows of the file stand where it names a text, a type, a field or a method. Memory is taken only
 /// for a list of arguments or a payload, and only where all its units are there.
 pub fn decode(alloc: Global, units: &[u16], at: usize) -> Result<(Insn, usize), InsnFault>
@@ -55,7 +58,7 @@ fn of_opcode(alloc: Global, opcode: Opcode, units: &[u16]) -> Result<(Insn, usiz
         Opcode::Float => Err(InsnFault::Float),
         Opcode::Unused => Err(InsnFault::Unused),
         Opcode::One(form) => Ok((one_unit(form, high), 1)),
-        Opcode::Listed(_) if high / 16 > 5 => Err(InsnFault::Unused),
+        Opcode::Listed(_) if high / 16 > MOST_LISTED => Err(InsnFault::Unused),
         Opcode::Two(_) if units.len() < 2 => Err(InsnFault::CutOff),
         Opcode::Two(form) => Ok((two_units(form, high, units[1]), 2)),
         Opcode::Five if units.len() < 5 => Err(InsnFault::CutOff),

@@ -5,7 +5,7 @@ ghost use Rattle.std.specs.Prelude.{◌≡◌, ◌<◌, ◌+◌, ◌*◌, ◌^�
 ghost use Rattle.std.specs.Int.{w64, cast_signed};
 ghost use Rattle.cc_meaning_insn.specs.Forms.{signed_half, two_units_of, int_of, of_bare, of_single, of_pair, of_triple, of_constant, of_high, of_named, of_pair_named, of_distant, one_unit, two_units, three_units};
 
-use cc_meaning::instruction::{Insn, TypeRef};
+use cc_meaning::instruction::{Insn, IntOp, TypeRef};
 use cc_meaning_insn::{
     Bare, Constant, Distant, Named, OneUnit, Pair, PairNamed, Single, ThreeUnits, Triple, TwoUnits,
 };
@@ -68,26 +68,17 @@ pub fn two_units(form: TwoUnits, high: u8, second: u16) -> Insn
         TwoUnits::F21h(form) => of_high(form, a, second),
         TwoUnits::F21c(form) => of_named(form, a, u32::from(second)),
         TwoUnits::F23x(form) => of_triple(form, a, second % 256, second / 256),
-        TwoUnits::F22b { op, reversed } => Insn::IntLit {
-            op,
-            reversed,
-            to: a,
-            left: second % 256,
-            literal: i32::from(((second / 256) as u8).cast_signed()),
-        },
+        TwoUnits::F22b { op, reversed } => {
+            let literal = i32::from(((second / 256) as u8).cast_signed());
+            of_literal(op, reversed, a, second % 256, literal)
+        }
         TwoUnits::F22t(test) => Insn::If {
             test,
             left: low,
             right: top,
             target: signed,
         },
-        TwoUnits::F22s { op, reversed } => Insn::IntLit {
-            op,
-            reversed,
-            to: low,
-            left: top,
-            literal: signed,
-        },
+        TwoUnits::F22s { op, reversed } => of_literal(op, reversed, low, top, signed),
         TwoUnits::F22c(form) => of_pair_named(form, low, top, u32::from(second)),
     }
 }
@@ -227,6 +218,18 @@ fn of_triple(form: Triple, a: u16, b: u16, c: u16) -> Insn
             left: b,
             right: c,
         },
+    }
+}
+
+fn of_literal(op: IntOp, reversed: bool, to: u16, left: u16, literal: i32) -> Insn
+    ensures { result ≡ Insn.IntLit op reversed to left literal }
+{
+    Insn::IntLit {
+        op,
+        reversed,
+        to,
+        left,
+        literal,
     }
 }
 

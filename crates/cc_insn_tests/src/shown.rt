@@ -23,6 +23,19 @@ pub fn show(found: &Result<(Insn, usize), InsnFault>) -> Shown {
     }
 }
 
+/// The arguments of an instruction that has a list of them.
+pub fn args_of(insn: &Insn) -> &[u16] {
+    match insn {
+        Insn::FilledNewArray { named: _, args } => args.as_slice(),
+        Insn::Invoke {
+            how: _,
+            named: _,
+            args,
+        } => args.as_slice(),
+        _ => &[],
+    }
+}
+
 type Named = (&'static str, &'static str, [i64; 4]);
 
 fn one(a: u16) -> [i64; 4] {
@@ -146,18 +159,18 @@ fn show_access(insn: &Insn) -> Named {
             of_kind(*kind),
             two_with(*from, *object, i64::from(*field)),
         ),
-        Insn::StaticGet { kind, to, field } => {
-            ("StaticGet", of_kind(*kind), with(*to, i64::from(*field)))
-        }
-        Insn::StaticPut { kind, from, field } => {
-            ("StaticPut", of_kind(*kind), with(*from, i64::from(*field)))
-        }
         _ => show_operation(insn),
     }
 }
 
 fn show_operation(insn: &Insn) -> Named {
     match insn {
+        Insn::StaticGet { kind, to, field } => {
+            ("StaticGet", of_kind(*kind), with(*to, i64::from(*field)))
+        }
+        Insn::StaticPut { kind, from, field } => {
+            ("StaticPut", of_kind(*kind), with(*from, i64::from(*field)))
+        }
         Insn::CompareLong { to, left, right } => ("CompareLong", "", three(*to, *left, *right)),
         Insn::IntUnary { op, to, from } => ("IntUnary", of_unary(*op), two(*to, *from)),
         Insn::LongUnary { op, to, from } => ("LongUnary", of_unary(*op), two(*to, *from)),
@@ -202,6 +215,12 @@ fn show_literal(insn: &Insn) -> Named {
             of_op(*op),
             two_with(*to, *left, i64::from(*literal)),
         ),
+        _ => show_payload(insn),
+    }
+}
+
+fn show_payload(insn: &Insn) -> Named {
+    match insn {
         Insn::PackedPayload { first, targets } => {
             let (count, target, last) = int_ends(targets.as_slice());
             (

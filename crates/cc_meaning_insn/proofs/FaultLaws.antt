@@ -1,6 +1,6 @@
 -- Each fault comes exactly where its units stand.
-use Rattle.std.proofs.Common.{◌≡◌, ◌≢◌, ℕ, zero, suc, ◌+◌, ◌*◌, ◌/◌, ◌%◌, ◌<◌, ◌≤◌, ◌⊎◌, inl, inr, Bool, true, false, cond, List, [], ◌∷◌, length, drop, get_or, Result, Ok, Err, refl, sym, ap, ◌∙◌, subst, arith}
-use Rattle.std.specs.Prelude.{nat_lt, ◌&&◌}
+use Rattle.std.proofs.Common.{◌≡◌, ◌≢◌, ℕ, ◌+◌, ◌/◌, ◌%◌, ◌<◌, ◌≤◌, ◌⊎◌, inl, inr, true, false, List, ◌∷◌, length, drop, get_or, Ok, Err, refl, sym, ap, ◌∙◌, subst, arith}
+use Rattle.std.specs.Prelude.{nat_lt}
 use Rattle.std.proofs.lemmas.Bool.{cases_lt, cases_eq, cases_Bool}
 use Rattle.std.proofs.lemmas.Bool.Decides.{nat_tests}
 use Rattle.std.proofs.lemmas.List.{drop_all, drop_more}
@@ -13,7 +13,7 @@ use Rattle.cc_meaning_insn.specs.declared.forms.OneUnit.TheVariants.{F10x}
 use Rattle.cc_meaning_insn.specs.declared.forms.Bare.TheVariants.{Nop}
 use Rattle.cc_meaning_insn.specs.declared.forms.Listed as list_of
 use Rattle.cc_meaning_insn.specs.Opcodes.{kinds, tests, hows, ops, literal_ops, shifts, moves_and_returns, constants, objects, jumps, accesses, invokes, unary_ops, binary_ops, literal_forms, opcodes, opcode_at}
-use Rattle.cc_meaning_insn.specs.Forms.{high_byte, high_half, one_unit, two_units, three_units, long_of, listed_units, ranged_units, int_of}
+use Rattle.cc_meaning_insn.specs.Forms.{one_unit, two_units, three_units, listed_units, ranged_units}
 use Rattle.cc_meaning_insn.specs.Payloads.{packed_payload, sparse_payload, array_payload, array_size, element_width, is_width}
 use Rattle.cc_meaning_insn.specs.Decoded.{if_there, of_opcode, front_of, decoded}
 use Rattle.cc_meaning_insn.specs.Spelling.{Spells}

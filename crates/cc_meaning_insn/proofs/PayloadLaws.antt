@@ -204,12 +204,12 @@ sparse_only part after insn s =
     let back : take (2 * n) (drop (2 * n) tail) ≡ targets =
     ap (λ u. take (2 * n) (drop (2 * n) u)) split ∙ ap (take (2 * n)) (drop_at keys (targets ++ after) (2 * n) many_keys)
     ∙ take_at targets after (2 * n) many_targets in
+    let spelled = SparsePayload (ints_of (slice_range (512 ∷ n ∷ tail) 2 (n * 2 + 2))) (ints_of (slice_range (512 ∷ n ∷ tail) (n * 2 + 2) size)) in
+    let split_up : spelled ≡ SparsePayload (ints_of keys) (ints_of targets) = sparse_made 512 n tail ∙ (λ i. SparsePayload (ints_of (front i)) (ints_of (back i))) in
+    let made : spelled ≡ insn = split_up ∙ (λ i. SparsePayload (ints_back s.keys s.keys_fit i) (ints_back s.targets s.targets_fit i)) ∙ sym s.made in
     ap (λ p. sparse_payload (p ++ after)) s.stands
-    ∙ there_is size (512 ∷ n ∷ tail) (SparsePayload (ints_of (slice_range (512 ∷ n ∷ tail) 2 (n * 2 + 2))) (ints_of (slice_range (512 ∷ n ∷ tail) (n * 2 + 2) size)))
-    (omega (arith, long, length-append (keys ++ targets) after))
-    ∙ ap (λ i. Ok (i, size))
-    (sparse_made 512 n tail ∙ (λ i. SparsePayload (ints_of (front i)) (ints_of (back i)))
-    ∙ (λ i. SparsePayload (ints_back s.keys s.keys_fit i) (ints_back s.targets s.targets_fit i)) ∙ sym s.made)
+    ∙ there_is size (512 ∷ n ∷ tail) spelled (omega (arith, long, length-append (keys ++ targets) after))
+    ∙ ap (λ i. Ok (i, size)) made
     ∙ ap (λ k. Ok (insn, k)) (omega (arith, long) ∙ ap length (sym s.stands))
 
 -- ---- array data

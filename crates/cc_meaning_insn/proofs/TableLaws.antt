@@ -1,5 +1,5 @@
 -- The rows of the table that are no instruction.
-use Rattle.std.proofs.Common.{◌≡◌, ℕ, zero, suc, ◌<◌, ◌≤◌, ◌⊎◌, inl, inr, Bool, true, false, length, refl, sym, ap, ◌∙◌, arith}
+use Rattle.std.proofs.Common.{◌≡◌, ℕ, zero, suc, ◌<◌, inl, inr, Bool, true, false, length, refl, ap, ◌∙◌, arith}
 use Rattle.std.specs.Prelude.{◌&&◌}
 use Rattle.std.proofs.lemmas.Bool.{cases_eq}
 use Rattle.cc_meaning_insn.specs.Opcodes.{kinds, tests, hows, ops, literal_ops, shifts, moves_and_returns, constants, objects, jumps, accesses, invokes, unary_ops, binary_ops, literal_forms, opcodes, opcode_at}
