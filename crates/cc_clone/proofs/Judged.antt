@@ -1,5 +1,7 @@
 -- The verdict on the parts of a Hello.
-use Rattle.std.proofs.Common.{ℕ, List, Ok, Err, sym, subst, ◌∙◌}
+use Rattle.std.proofs.Common.{ℕ, List, Ok, Err, sym, subst, ◌∙◌, ◌≡◌, Bool, true, false, not, refl}
+use Rattle.std.specs.Str.{bytes_eq}
+use Rattle.std.proofs.lemmas.Slice.Eq.{bytes_eq-Decides}
 use Rattle.cc_meaning_plain.specs.declared.plain.Plain.{Plain}
 use Rattle.cc_meaning_plain.specs.Plain.{IsPlain}
 use Rattle.cc_meaning_plain.specs.Laws.{PlainOnce}
@@ -30,3 +32,11 @@ module _ (payload main file script : List ℕ) (spells : SpellsHello payload mai
         names_main = subst (λ (bytes : List ℕ). NamesMain bytes plain) same.0 of.names_main;
         no_classes = sym same.2 ∙ of.no_classes;
       }))
+
+-- a test of equality that is false when turned round
+pub same_bytes : (a b : List ℕ) → false ≡ not (bytes_eq a b) → a ≡ b
+same_bytes a b e = (bytes_eq-Decides a b).0 (by (bytes_eq a b) e)
+  where
+    by : (t : Bool) → false ≡ not t → t ≡ true
+    by true h = refl
+    by false h = absurd cc

@@ -3,3 +3,4 @@ pub mod Stepping
 pub mod Payloads
 pub mod Names
 pub mod Judged
+pub mod Serving

@@ -1,15 +1,15 @@
 -- A clone's steps along its stream.
-use Rattle.std.proofs.Common.{◌≡◌, ◌↔◌, ℕ, Bool, true, false, List, [], ◌++◌, Option, Some, None, Result, Ok, Err, refl, sym, ap, subst, ◌∙◌, append_assoc, is_some, if◌then◌else◌}
+use Rattle.std.proofs.Common.{◌≡◌, ◌↔◌, ℕ, ◌≤◌, Bool, true, false, List, [], ◌++◌, length, Option, Some, None, Result, Ok, Err, refl, sym, ap, subst, ◌∙◌, append_assoc, is_some, if◌then◌else◌}
 use Rattle.std.proofs.lemmas.List.{append-nil}
 use Rattle.cc_meaning.specs.declared.frame.Frame.{Frame}
 use Rattle.cc_meaning.specs.declared.travel.CloneEnd.{CloneEnd}
 use Rattle.cc_meaning_nodes.specs.Frames.{Front, Partial, Whole, Faulty, front_of, Ending, Rest, Fails, Frames, with_frame, frames_from, IsPartial}
-use Rattle.cc_meaning_nodes.specs.FrameLaws.{NothingMore}
+use Rattle.cc_meaning_nodes.specs.FrameLaws.{NothingMore, BeginsWithWhole}
 use Rattle.cc_meaning_nodes.specs.Talk.{Closed, Talk, talk, says, with_said, stands_at, NothingIsSaid, FirstIsAnswered, WaitsForRest}
 use Rattle.cc_meaning_nodes.specs.Clone.{ClonePlace, Waiting, Serving}
 use Rattle.cc_meaning_plain.specs.declared.plain.Plain.{Plain}
 use Rattle.cc_meaning_clone.specs.Plain.{PlainStanding, plain_clone, IsVerdict, IsVerdictAt, HasVerdict, VerdictOnFirst, VerdictWaits, IsJudgedFirst}
-use Rattle.cc_framing.specs.Reader.{fed_by, Feeds, standing, without_standing}
+use Rattle.cc_framing.specs.Reader.{fed_by, Feeds, whole_in, standing, without_standing}
 use Rattle.cc_clone.specs.Node.{next_in, Answers, IsAnswered, IsHeld, standing_at, Steps, Comes, IsDue}
 
 -- ---- what a reader holds
@@ -196,3 +196,15 @@ steps-due old new piece rest s t steps verdict v =
 pub closed_has : (end : Option CloneEnd) (job : Option Plain) (e : Ending) (piece : List ℕ) → is_some end ≡ true → HasVerdict (standing_at (next_in end job) e) piece
 closed_has None job e piece is = absurd cc
 closed_has (Some cause) job e piece is = (Err 64, tt)
+
+-- a frame that stands whole is one
+whole_is_frame : BeginsWithWhole → (bytes : List ℕ) (f : Front) (frame : Frame) → front_of bytes ≡ f → whole_in f ≡ Some frame → length frame.payload ≤ 67108864
+whole_is_frame begins bytes Partial frame e taken = absurd cc
+whole_is_frame begins bytes (Whole g n) frame e taken =
+    let same : g ≡ frame = cc in
+    subst (λ (x : Frame). length x.payload ≤ 67108864) same (begins bytes [] g n e).0.short
+whole_is_frame begins bytes (Faulty fault) frame e taken = absurd cc
+
+pub taken_is_short : BeginsWithWhole → (e : Ending) (frame : Frame) → standing e ≡ Some frame → length frame.payload ≤ 67108864
+taken_is_short begins (Rest bytes) frame taken = whole_is_frame begins bytes (front_of bytes) frame refl taken
+taken_is_short begins (Fails fault) frame taken = absurd cc

@@ -54,8 +54,7 @@ fn answer(alloc: Global, plain: &Plain, run: &RunImage) -> Result<BackImage, All
     requires is_run { IsRunOf (program_of plain.now) run.now }
     ensures { IfOk result (λ back. back ≡ answered plain.now run.now) }
 {
-    run_laws::runnable_is();
-    run_laws::form_is();
+    run_laws::runs_have_parts();
     run_laws::answered_is();
     let Some(function) = function_numbered(plain, run.method) else {
         unreachable!();
@@ -77,6 +76,9 @@ pub(crate) fn serve_run(alloc: Global, job: &Job, payload: &[u8]) -> Result<RunE
     ensures short { IfOk result (λ end. IsShort end) }
 {
     law_run_is_spelled();
+    run_laws::runs_have_parts();
+    run_laws::answered_is();
+    run_laws::backs_are_short();
     let plain = job.plain();
     let run = match decode_run(alloc, payload, plain) {
         Ok(run) => run,

@@ -17,6 +17,7 @@ use Rattle.cc_meaning_run.specs.Acts.{less_by}
 use Rattle.cc_meaning_run.specs.Eval.{Ran, ran, with_instructions, eval_with, body}
 use Rattle.cc_meaning_run.specs.BuiltInMethods.{built_in_tables}
 use Rattle.cc_meaning_run.specs.Local.{opening_static}
+use Rattle.cc_meaning_images.specs.Spelling.{spelled_back}
 use Rattle.cc_meaning_images.specs.Capture.{file_statuses, sent_statics, sent_calls, back_image}
 use Rattle.cc_meaning_images.specs.Instance.{all_statuses, all_statics, world_of, stack_of, silent, ran_of, back_by, back_of}
 use Rattle.cc_meaning_images.specs.Reading.{Runnable, classes_of_file, static_kinds, argument_kinds, runnable}
@@ -29,7 +30,7 @@ use Rattle.cc_meaning_plain.specs.Plain.{IsPlain}
 use Rattle.cc_meaning_plain.specs.Program.{built_in_names, class_number, code_of, type_of, function_number, function_of, program_of, setting_of}
 use Rattle.cc_meaning_plain.specs.Text.{value_of, instructions_of}
 use Rattle.cc_meaning_clone.specs.Served.{out_order, no_cursors, answered}
-use Rattle.cc_meaning_clone.specs.Functions.{function_place, function_numbered, is_ordinary, runnable_function, function_end, left_of, end_image, FormIs, AnsweredIs, RunnableIs}
+use Rattle.cc_meaning_clone.specs.Functions.{function_place, function_numbered, is_ordinary, runnable_function, function_end, left_of, end_image, FormIs, AnsweredIs, RunnableIs, RunParts, RunsHaveParts, BacksAreShort}
 use Rattle.cc_meaning_clone.proofs.Functions.{number_of_place}
 
 pub form_is : (plain : Plain) → FormIs plain
@@ -139,3 +140,34 @@ answered_is runnables runs file plain run f n bytes is_plain is found args =
         ap (λ (k : ℕ). body (eval_with silent (setting_of plain) run.instructions) (setting_of plain) k (value.Int n ∷ []) (stack_of here) w tt) number ∙ ran.1 in
     subst (λ (x : RunImage). answered plain x ≡ end_image (function_end f.code n left) (left_of left) x) (sym entry.1)
     (ap (back_by (setting_of plain) w out_order out_order) done ∙ back_ran plain run.method run.instructions run.words run.depth run.registers entry.0 n f.code left)
+
+-- ---- the parts of a Run
+
+by_function : RunnableIs → (plain : Plain) (image : RunImage) → IsRunOf (program_of plain) image → (o : Option PlainFunction) → function_numbered plain image.method ≡ o → (f : PlainFunction) × (function_numbered plain image.method ≡ Some f)
+by_function runnables plain image is None e =
+    let none : None ≡ Some is.target = sym (ap (runnable_function plain) e) ∙ sym (runnables plain image.method) ∙ is.runs in
+    absurd cc
+by_function runnables plain image is (Some f) e = (f, e)
+
+one_number : (vs : List Value) → AreValues (access.Plain ∷ []) vs → (n : ℤ) × (vs ≡ value.Int n ∷ [])
+one_number [] h = absurd h
+one_number (value.Int n ∷ []) h = (n, refl)
+one_number (value.Int n ∷ v ∷ vs) h = absurd h.1
+one_number (value.Long n ∷ vs) h = absurd h.0
+one_number (value.Obj o ∷ vs) h = absurd h.0
+
+pub runs_have_parts : RunnableIs → RunsHaveParts
+runs_have_parts runnables plain image is =
+    let f = by_function runnables plain image is (function_numbered plain image.method) refl in
+    let target = target_is runnables plain image f.0 is f.1 in
+    let kinds : argument_kinds is.target.method ≡ access.Plain ∷ [] = ap (λ (t : Runnable). argument_kinds t.method) target ∙ (form_is plain).one_argument f.0 in
+    let n = one_number image.args (subst (λ ks. AreValues ks image.args) kinds is.args) in
+    let s = one_status image.statuses (is.all_statuses ∙ (form_is plain).one_class) in
+    record { function = f.0; argument = n.0; status = s.0; found = f.1; args = n.1; statuses = s.1 }
+
+pub backs_are_short : BacksAreShort
+unfolding spelled_back
+backs_are_short code n None run status e =
+    subst (λ ss. length (spelled_back (end_image (function_end code n None) 0 (record run { statuses = ss }))) ≤ 30) (sym e) (omega arith)
+backs_are_short code n (Some left) run status e =
+    subst (λ ss. length (spelled_back (end_image (function_end code n (Some left)) left (record run { statuses = ss }))) ≤ 30) (sym e) (omega arith)

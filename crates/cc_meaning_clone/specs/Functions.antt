@@ -1,5 +1,5 @@
 -- The functions of a plain file by the numbers of their methods, and what a Run of one comes to.
-use Rattle.std.specs.Prelude.{◌≡◌, ℕ, ◌+◌, ◌-◌, ◌==◌, ◌&&◌, nat_lt, not, Bool, cond, ℤ, List, [], ◌∷◌, Option, Some, None, slice_get, option_and_then, codes}
+use Rattle.std.specs.Prelude.{◌≡◌, ℕ, ◌+◌, ◌-◌, ◌≤◌, ◌==◌, ◌&&◌, length, nat_lt, not, Bool, cond, ℤ, List, [], ◌∷◌, Option, Some, None, slice_get, option_and_then, codes}
 use Rattle.std.specs.Str.{bytes_eq}
 use Rattle.cc_meaning.specs.declared.value.Value.TheVariants as value
 use Rattle.cc_meaning.specs.declared.report.CallEnd.{CallEnd}
@@ -9,6 +9,7 @@ use Rattle.cc_meaning.specs.declared.image.Contents.TheVariants as contents
 use Rattle.cc_meaning.specs.declared.image.RunImage.{RunImage}
 use Rattle.cc_meaning.specs.declared.image.BackImage.{BackImage}
 use Rattle.cc_meaning_run.specs.Acts.{less_by}
+use Rattle.cc_meaning_images.specs.Spelling.{spelled_back}
 use Rattle.cc_meaning_images.specs.Reading.{Runnable, runnable, classes_of_file, argument_kinds, static_kinds}
 use Rattle.cc_meaning_images.specs.Forms.{IsRunOf}
 use Rattle.cc_meaning.specs.declared.instruction.Kind.TheVariants as access
@@ -85,3 +86,20 @@ abbrev pub AnsweredIs : Type 0
 AnsweredIs = (file : List ℕ) (plain : Plain) (image : RunImage) (f : PlainFunction) (n : ℤ) → AreBytes file → IsPlain file plain → IsRunOf (program_of plain) image →
     function_numbered plain image.method ≡ Some f → image.args ≡ value.Int n ∷ [] →
     answered plain image ≡ end_image (function_end f.code n (less_by (instructions_of f.code) image.instructions)) (left_of (less_by (instructions_of f.code) image.instructions)) image
+
+-- a Run of a plain file is one of a function, with a number and the status of the one class
+pub record RunParts (plain : Plain) (image : RunImage) : Type 0 where
+  pub function : PlainFunction
+  pub argument : ℤ
+  pub status : ℕ
+  pub found : function_numbered plain image.method ≡ Some function
+  pub args : image.args ≡ value.Int argument ∷ []
+  pub statuses : image.statuses ≡ status ∷ []
+
+abbrev pub RunsHaveParts : Type 0
+RunsHaveParts = (plain : Plain) (image : RunImage) → IsRunOf (program_of plain) image → RunParts plain image
+
+-- and its Back is short
+abbrev pub BacksAreShort : Type 0
+BacksAreShort = (code : PlainCode) (n : ℤ) (left : Option ℕ) (run : RunImage) (status : ℕ) → run.statuses ≡ status ∷ [] →
+    length (spelled_back (end_image (function_end code n left) (left_of left) run)) ≤ 30

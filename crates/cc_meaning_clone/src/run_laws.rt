@@ -1,6 +1,6 @@
 //! Laws of what a Run of a plain file comes to.
 
-ghost use Rattle.cc_meaning_clone.specs.Functions.{RunnableIs, FormIs, AnsweredIs};
+ghost use Rattle.cc_meaning_clone.specs.Functions.{RunnableIs, FormIs, AnsweredIs, RunsHaveParts, BacksAreShort};
 ghost use Rattle.cc_meaning_clone.specs.Worked.{EntryIsSpelled, EndIsSpelled};
 ghost use Rattle.cc_meaning_plain.specs.declared.plain.Plain.{Plain};
 
@@ -27,6 +27,19 @@ pub fn answered_is()
     runnable_is();
     law_function_runs::<()>();
 }
+
+/// A Run of a plain file is one of a function, with a number and the status of the one class.
+pub fn runs_have_parts()
+    ensures { RunsHaveParts }
+{
+    runnable_is();
+}
+
+/// The Back of a function is short.
+#[tactic(auto, using(crate::proofs::Answers::backs_are_short))]
+pub fn backs_are_short()
+    ensures { BacksAreShort }
+{}
 
 /// The image of an entry and of its end, at a worked example: a function adds 1 to 5.
 #[tactic(auto, using(crate::proofs::Worked::entry_is_spelled, crate::proofs::Worked::end_is_spelled))]

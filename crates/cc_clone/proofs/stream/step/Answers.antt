@@ -6,8 +6,11 @@ use Rattle.cc_meaning_nodes.specs.Frames.{Fails, with_frame, frames_from}
 use Rattle.cc_meaning_clone.specs.Plain.{place_in}
 use Rattle.cc_framing.specs.Reader.{without_standing, with_one}
 use Rattle.cc_clone.specs.Node.{IsAnswered, standing_at}
-use Rattle.cc_clone.proofs.Stepping.{held_partial, held_after, step_waits, step_answers, steps-rest}
+use Rattle.cc_clone.proofs.Stepping.{held_partial, held_after, step_waits, step_answers, steps-rest, taken_is_short}
 use Rattle.cc_clone.proofs.stream.step.Goals as goal
+
+pub serve-requires : goal.serve-requires
+serve-requires c = taken_is_short c.begins_with_whole.ensures c.feed.new.self c.in-Some.frame (sym c.take.ensures.taken ∙ c.in-Some.is)
 
 pub returns-in-Err : goal.returns-in-Err
 returns-in-Err c =
