@@ -11,6 +11,3 @@ mod service;
 mod stream;
 
 pub use node::CloneNode;
-
-#[cfg(test)]
-mod tests;

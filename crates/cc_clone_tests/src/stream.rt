@@ -1,4 +1,6 @@
-use super::*;
+//! A clone on streams that are faulty from their first frame on.
+
+use cc_clone::CloneNode;
 use cc_meaning::fault::FrameFault;
 use cc_meaning::travel::CloneEnd;
 use std::alloc::Global;
