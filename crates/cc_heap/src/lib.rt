@@ -7,6 +7,3 @@ mod world;
 
 pub use made::law_noted;
 pub use world::World;
-
-#[cfg(test)]
-mod tests;

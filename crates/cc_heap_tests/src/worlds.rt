@@ -1,6 +1,6 @@
 ghost use Rattle.std.specs.Prelude.{◌≡◌, length, IfOk};
 
-use super::*;
+use cc_heap::World;
 use cc_list::List;
 use cc_meaning::lists::{Texts, Units};
 use cc_meaning::program::{Base, Class, ClassKind, Classes, DexType, Field, Fields, Program};
