@@ -31,7 +31,12 @@ pub(crate) enum RunEnd {
 }
 
 /// The image of the end of a function, which changes nothing but the instructions left.
-fn end_image(alloc: Global, ending: CallEnd, instructions: u64, run: &RunImage) -> Result<BackImage, AllocError>
+fn end_image(
+    alloc: Global,
+    ending: CallEnd,
+    instructions: u64,
+    run: &RunImage,
+) -> Result<BackImage, AllocError>
     ensures { IfOk result (λ back. back ≡ end_image ending instructions run.now) }
 {
     Ok(BackImage {

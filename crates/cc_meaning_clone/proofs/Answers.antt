@@ -69,14 +69,15 @@ entry_is : (plain : Plain) (image : RunImage) (n : ℤ) → IsRunOf (program_of 
 entry_is plain image n is args =
     let form = form_is plain in
     let status = one_status image.statuses (is.all_statuses ∙ form.one_class) in
-    let statics = no_values image.statics (subst (λ ks. AreValues ks image.statics) form.no_statics is.statics) in
-    (status.0,
-    ap (λ (ss : List ℕ). record image { statuses = ss }) status.1
-    ∙ ap (λ (vs : List Value). record image { statuses = status.0 ∷ []; args = vs }) args
-    ∙ ap (λ (vs : List Value). record image { statuses = status.0 ∷ []; args = value.Int n ∷ []; statics = vs }) statics
-    ∙ ap (λ (ms : List Made). record image { statuses = status.0 ∷ []; args = value.Int n ∷ []; statics = []; literals = ms }) is.no_literals
-    ∙ ap (λ (ms : List Made). record image { statuses = status.0 ∷ []; args = value.Int n ∷ []; statics = []; literals = []; constants = ms }) is.no_constants
-    ∙ ap (λ (os : List Object). record image { statuses = status.0 ∷ []; args = value.Int n ∷ []; statics = []; literals = []; constants = []; objects = os }) is.out_alone)
+    let statics = no_values image.statics (subst (λ ks. AreValues ks image.statics) form.no_statics is.statics) in (
+      status.0,
+      ap (λ (ss : List ℕ). record image { statuses = ss }) status.1
+          ∙ ap (λ (vs : List Value). record image { statuses = status.0 ∷ []; args = vs }) args
+          ∙ ap (λ (vs : List Value). record image { statuses = status.0 ∷ []; args = value.Int n ∷ []; statics = vs }) statics
+          ∙ ap (λ (ms : List Made). record image { statuses = status.0 ∷ []; args = value.Int n ∷ []; statics = []; literals = ms }) is.no_literals
+          ∙ ap (λ (ms : List Made). record image { statuses = status.0 ∷ []; args = value.Int n ∷ []; statics = []; literals = []; constants = ms }) is.no_constants
+          ∙ ap (λ (os : List Object). record image { statuses = status.0 ∷ []; args = value.Int n ∷ []; statics = []; literals = []; constants = []; objects = os }) is.out_alone,
+    )
 
 -- ---- the image of the end
 
@@ -137,7 +138,7 @@ answered_is runnables runs file plain run f n bytes is_plain is found args =
     let ends : ran.0 ≡ tt = refl in
     let left = less_by (instructions_of f.code) run.instructions in
     let done : ran_of (setting_of plain) (no_cursors plain) here ≡ function_ran f.code n w left tt =
-        ap (λ (k : ℕ). body (eval_with silent (setting_of plain) run.instructions) (setting_of plain) k (value.Int n ∷ []) (stack_of here) w tt) number ∙ ran.1 in
+    ap (λ (k : ℕ). body (eval_with silent (setting_of plain) run.instructions) (setting_of plain) k (value.Int n ∷ []) (stack_of here) w tt) number ∙ ran.1 in
     subst (λ (x : RunImage). answered plain x ≡ end_image (function_end f.code n left) (left_of left) x) (sym entry.1)
     (ap (back_by (setting_of plain) w out_order out_order) done ∙ back_ran plain run.method run.instructions run.words run.depth run.registers entry.0 n f.code left)
 

@@ -50,6 +50,7 @@ beside_is main i j e = by (i == main) refl e
         let less : nat_lt j main ≡ false = grind (arith, nat_tests) in
         let here : i ≡ j + 1 = omega arith in
         (here ∙ sym (ap (λ (t : Bool). cond t j (j + 1)) less), (λ g. omega arith))
+
     by : (b : Bool) → (i == main) ≡ b → cond b None (Some (cond (nat_lt i main) i (i - 1))) ≡ Some j → (i ≡ shifted main 1 j) × (i ≢ main)
     by true is f = absurd cc
     by false is f = earlier (nat_lt i main) refl is f
@@ -109,6 +110,7 @@ module _ (plain : Plain) (numbers : NumbersMethods plain) (only : OnlyFileHasCod
           let main = no_function m none method e code has in
           let same : (m == main_number plain) ≡ true = grind (arith, nat_tests, main) in
           rw same refl
+
       by : (o : Option Method) → slice_get (program_of plain).methods m ≡ o → runnable_method (program_of plain) m o ≡ None
       by None e = refl
       by (Some method) e = with_code method e (code_of_kind method.kind) refl

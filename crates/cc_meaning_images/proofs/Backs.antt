@@ -162,7 +162,7 @@ head_read type head at more h =
     let r = ending_read type head.ending at (u8 head.instructions ++ (u4 head.words ++ more)) h.ending in
     record {
       next = r.next + 8 + 4;
-      is = read_on _ _ _ _ _ r.is ∙ read_on _ _ _ _ _ (read_8 r.next head.instructions _ h.instructions) ∙ read_on _ _ _ _ _ (read_4 (r.next + 8) head.words more h.words)
+      is = read_on _ _ _ _ _ r.is ∙ read_on _ _ _ _ _ (read_8 r.next head.instructions _ h.instructions) ∙ read_on _ _ _ _ _ (read_4 (r.next + 8) head.words more h.words);
     }
 
 -- ---- what stands behind them
@@ -215,7 +215,7 @@ behind_read p before head ss statics at are_ss are_statics =
           ∙ read_on _ _ _ _ _ r2.is
           ∙ read_on _ _ _ _ _ (none_read r2.next (u4 0 ++ u4 0))
           ∙ read_on _ _ _ _ _ (none_read (r2.next + 4) (u4 0))
-          ∙ read_on _ _ _ _ _ (none_read (r2.next + 4 + 4) [])
+          ∙ read_on _ _ _ _ _ (none_read (r2.next + 4 + 4) []);
     }
 
 -- ---- the image

@@ -88,21 +88,24 @@ spelled_of k spelling more rest h s m =
 
 pub spelled_2 : (at : ℕ) (rest : List ℕ) (n next : ℕ) (more : List ℕ) → AreBytes rest → number w16 at rest ≡ got n next more → (n < 2 ^ 16) × Spelled (to_be_bytes w16 n) more rest
 spelled_2 at rest n next more h e =
-    let f = number_found w16 at rest n next more e in
-    (subst (λ k. k < 2 ^ 16) (sym f.1) (be_below_2 (take 2 rest) (bytes_take 2 rest h)),
-    spelled_of 2 (to_be_bytes w16 n) more rest h (be_bytes_2 (take 2 rest) n (length-take-le 2 rest f.0) (bytes_take 2 rest h) f.1) f.2)
+    let f = number_found w16 at rest n next more e in (
+      subst (λ k. k < 2 ^ 16) (sym f.1) (be_below_2 (take 2 rest) (bytes_take 2 rest h)),
+      spelled_of 2 (to_be_bytes w16 n) more rest h (be_bytes_2 (take 2 rest) n (length-take-le 2 rest f.0) (bytes_take 2 rest h) f.1) f.2,
+    )
 
 pub spelled_4 : (at : ℕ) (rest : List ℕ) (n next : ℕ) (more : List ℕ) → AreBytes rest → number w32 at rest ≡ got n next more → (n < 2 ^ 32) × Spelled (to_be_bytes w32 n) more rest
 spelled_4 at rest n next more h e =
-    let f = number_found w32 at rest n next more e in
-    (subst (λ k. k < 2 ^ 32) (sym f.1) (be_below_4 (take 4 rest) (bytes_take 4 rest h)),
-    spelled_of 4 (to_be_bytes w32 n) more rest h (be_bytes_4 (take 4 rest) n (length-take-le 4 rest f.0) (bytes_take 4 rest h) f.1) f.2)
+    let f = number_found w32 at rest n next more e in (
+      subst (λ k. k < 2 ^ 32) (sym f.1) (be_below_4 (take 4 rest) (bytes_take 4 rest h)),
+      spelled_of 4 (to_be_bytes w32 n) more rest h (be_bytes_4 (take 4 rest) n (length-take-le 4 rest f.0) (bytes_take 4 rest h) f.1) f.2,
+    )
 
 pub spelled_8 : (at : ℕ) (rest : List ℕ) (n next : ℕ) (more : List ℕ) → AreBytes rest → number w64 at rest ≡ got n next more → (n < 2 ^ 64) × Spelled (to_be_bytes w64 n) more rest
 spelled_8 at rest n next more h e =
-    let f = number_found w64 at rest n next more e in
-    (subst (λ k. k < 2 ^ 64) (sym f.1) (be_below_8 (take 8 rest) (bytes_take 8 rest h)),
-    spelled_of 8 (to_be_bytes w64 n) more rest h (be_bytes_8 (take 8 rest) n (length-take-le 8 rest f.0) (bytes_take 8 rest h) f.1) f.2)
+    let f = number_found w64 at rest n next more e in (
+      subst (λ k. k < 2 ^ 64) (sym f.1) (be_below_8 (take 8 rest) (bytes_take 8 rest h)),
+      spelled_of 8 (to_be_bytes w64 n) more rest h (be_bytes_8 (take 8 rest) n (length-take-le 8 rest f.0) (bytes_take 8 rest h) f.1) f.2,
+    )
 
 pub spelled_1 : (at : ℕ) (rest : List ℕ) (b next : ℕ) (more : List ℕ) → AreBytes rest → byte at rest ≡ got b next more → Spelled (b ∷ []) more rest
 unfolding byte

@@ -103,7 +103,7 @@ head_read p head at more h =
           ∙ read_on _ _ _ _ _ (read_2 (at + 4 + 8 + 4) head.depth _ h.depth)
           ∙ is_allowed _ _ _ h.frame
           ∙ read_on _ _ _ _ _ (read_4 (at + 4 + 8 + 4 + 2) head.registers more h.registers)
-          ∙ is_allowed _ _ _ h.room)
+          ∙ is_allowed _ _ _ h.room);
     }
 
 -- ---- what stands behind them
@@ -168,7 +168,7 @@ behind_read p head ss args statics at more len are_ss are_args are_statics =
           ∙ read_on _ _ _ _ _ r3.is
           ∙ read_on _ _ _ _ _ (none_read r3.next (u4 0 ++ 0 ∷ more))
           ∙ read_on _ _ _ _ _ (none_read (r3.next + 4) (0 ∷ more))
-          ∙ read_on _ _ _ _ _ (out_read (r3.next + 4 + 4) more))
+          ∙ read_on _ _ _ _ _ (out_read (r3.next + 4 + 4) more));
     }
 
 -- ---- the image

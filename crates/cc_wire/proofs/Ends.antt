@@ -78,8 +78,16 @@ module _ (plain : Plain) (form : FormIs plain) (before : ℕ) (head : BackHead) 
       reading (none a3 r3) (λ constants a4 r4.
       reading (none a4 r4) (λ events a5 r5.
       got (record {
-        ending = head.ending; instructions = head.instructions; words = head.words; statuses = ss; statics = statics; literals = []; constants = []; events = [];
-        old = contents.Nothing ∷ []; fresh = [];
+        ending = head.ending;
+        instructions = head.instructions;
+        words = head.words;
+        statuses = ss;
+        statics = statics;
+        literals = [];
+        constants = [];
+        events = [];
+        old = contents.Nothing ∷ [];
+        fresh = [];
       }) a5 r5)))))
   unfolding back_behind
   by_form = rw form.no_statics refl

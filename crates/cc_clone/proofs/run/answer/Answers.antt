@@ -37,13 +37,13 @@ returns c =
     let found = sym c.in-Some.ensures in
     let f = c.in-Some.function.now in
     let equal : end_image c.match-branch-2.ending.0 c.match-branch-2.ending.1 run ≡ answered plain run =
-      elim c.match-branch-2.branch [
-        | in-Some-2 w ↦
+    elim c.match-branch-2.branch [
+      | in-Some-2 w ↦
           let given = MatchOption-at_some _ _ (w.in-Some-2.value, w.in-Some-2.left) w.in-Some-2.is c.in_ok-value.ensures in
           ap (λ (e : CallEnd × ℕ). end_image e.0 e.1 run) w.ending-is
           ∙ returned c.answered_is.ensures plain c.requires.of_file run c.requires.is_run f c.in-Int.argument found args (cast_signed w32 (cast_unsigned w32 w.in-Some-2.value)) w.in-Some-2.left (to_z-of_z w32 w.in-Some-2.value (search rules) ∙ given.0 ∙ ap (value_of f.code) (to_z-of_z w32 c.in-Int.argument (search rules))) given.1
-        | in-None w ↦
+      | in-None w ↦
           ap (λ (e : CallEnd × ℕ). end_image e.0 e.1 run) w.ending-is
           ∙ stopped c.answered_is.ensures plain c.requires.of_file run c.requires.is_run f c.in-Int.argument found args (MatchOption-at_none _ _ w.in-None.is c.in_ok-value.ensures)
-      ] in
+    ] in
     IfOk-weaker c.end_image.result _ _ (λ back e. e ∙ equal) c.end_image.ensures

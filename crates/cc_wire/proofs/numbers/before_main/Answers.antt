@@ -12,8 +12,8 @@ returns-then-not-is_before_main c =
     let more = before_main_more c.args.functions.now c.loop-function.function-index c.function-item.result c.loop-function-test.true in
     let name : is_before c.function-item.result.name main_name ≡ c.is_before_main.result = ap (λ (n : List ℕ). is_before n main_name) (sym c.as_slice.ensures) ∙ sym c.is_before_main.ensures in
     let none : before_main (drop c.loop-function.function-index c.args.functions.now) ≡ 0 =
-        more ∙ ap (λ f. cond (is_before f.name main_name) (suc (before_main (drop (c.loop-function.function-index + 1) c.args.functions.now))) 0) (sym c.function-item.is)
-        ∙ ap (λ (b : Bool). cond b (suc (before_main (drop (c.loop-function.function-index + 1) c.args.functions.now))) 0) (name ∙ c.if-not-is_before_main.true) in
+    more ∙ ap (λ f. cond (is_before f.name main_name) (suc (before_main (drop (c.loop-function.function-index + 1) c.args.functions.now))) 0) (sym c.function-item.is)
+    ∙ ap (λ (b : Bool). cond b (suc (before_main (drop (c.loop-function.function-index + 1) c.args.functions.now))) 0) (name ∙ c.if-not-is_before_main.true) in
     omega (arith, none, c.loop-function.invariant.all)
 
 pub overflow_add-count : goal.overflow_add-count
@@ -24,8 +24,8 @@ loop-function-preserved c =
     let more = before_main_more c.args.functions.now c.loop-function.function-index c.function-item.result c.loop-function-test.true in
     let name : is_before c.function-item.result.name main_name ≡ c.is_before_main.result = ap (λ (n : List ℕ). is_before n main_name) (sym c.as_slice.ensures) ∙ sym c.is_before_main.ensures in
     let one : before_main (drop c.loop-function.function-index c.args.functions.now) ≡ suc (before_main (drop (c.loop-function.function-index + 1) c.args.functions.now)) =
-        more ∙ ap (λ f. cond (is_before f.name main_name) (suc (before_main (drop (c.loop-function.function-index + 1) c.args.functions.now))) 0) (sym c.function-item.is)
-        ∙ ap (λ (b : Bool). cond b (suc (before_main (drop (c.loop-function.function-index + 1) c.args.functions.now))) 0) (name ∙ c.if-not-is_before_main.false) in
+    more ∙ ap (λ f. cond (is_before f.name main_name) (suc (before_main (drop (c.loop-function.function-index + 1) c.args.functions.now))) 0) (sym c.function-item.is)
+    ∙ ap (λ (b : Bool). cond b (suc (before_main (drop (c.loop-function.function-index + 1) c.args.functions.now))) 0) (name ∙ c.if-not-is_before_main.false) in
     record { all = omega (arith, one, c.loop-function.invariant.all); each = omega (arith, c.loop-function.invariant.each) }
 
 pub returns : goal.returns

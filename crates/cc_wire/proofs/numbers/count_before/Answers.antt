@@ -10,22 +10,22 @@ loop-class-init c = omega arith
 
 pub overflow_add-count : goal.overflow_add-count
 overflow_add-count c =
-    let more = counts_more c.args.table.now c.args.name.now c.loop-class.class-index (record {ref_ptr = (0, 0); now = []}, 0) c.loop-class-test.true in
-    let row = slice_index_or c.args.table.now c.loop-class.class-index (record {ref_ptr = (0, 0); now = []}, 0) in
+    let more = counts_more c.args.table.now c.args.name.now c.loop-class.class-index (record { ref_ptr = (0, 0); now = [] }, 0) c.loop-class-test.true in
+    let row = slice_index_or c.args.table.now c.loop-class.class-index (record { ref_ptr = (0, 0); now = [] }, 0) in
     let here : cond (is_before row.0.now c.args.name.now) row.1 0 ≡ row.1 = ap (λ (b : Bool). cond b row.1 0) (sym c.is_before.ensures ∙ c.if-is_before.true) in
     omega (arith, more, here, c.loop-class.invariant, c.requires)
 
 pub loop-class-preserved : goal.loop-class-preserved
 loop-class-preserved c =
-    let more = counts_more c.args.table.now c.args.name.now c.loop-class.class-index (record {ref_ptr = (0, 0); now = []}, 0) c.loop-class-test.true in
-    let row = slice_index_or c.args.table.now c.loop-class.class-index (record {ref_ptr = (0, 0); now = []}, 0) in
+    let more = counts_more c.args.table.now c.args.name.now c.loop-class.class-index (record { ref_ptr = (0, 0); now = [] }, 0) c.loop-class-test.true in
+    let row = slice_index_or c.args.table.now c.loop-class.class-index (record { ref_ptr = (0, 0); now = [] }, 0) in
     elim c.if-is_before.branch [
       | then-is_before w ↦
-        let here : cond (is_before row.0.now c.args.name.now) row.1 0 ≡ row.1 = ap (λ (b : Bool). cond b row.1 0) (sym c.is_before.ensures ∙ w.if-is_before.true) in
-        omega (arith, more, here, c.loop-class.invariant, w.count-is)
+          let here : cond (is_before row.0.now c.args.name.now) row.1 0 ≡ row.1 = ap (λ (b : Bool). cond b row.1 0) (sym c.is_before.ensures ∙ w.if-is_before.true) in
+          omega (arith, more, here, c.loop-class.invariant, w.count-is)
       | else-is_before w ↦
-        let here : cond (is_before row.0.now c.args.name.now) row.1 0 ≡ 0 = ap (λ (b : Bool). cond b row.1 0) (sym c.is_before.ensures ∙ w.if-is_before.false) in
-        omega (arith, more, here, c.loop-class.invariant, w.count-is)
+          let here : cond (is_before row.0.now c.args.name.now) row.1 0 ≡ 0 = ap (λ (b : Bool). cond b row.1 0) (sym c.is_before.ensures ∙ w.if-is_before.false) in
+          omega (arith, more, here, c.loop-class.invariant, w.count-is)
     ]
 
 pub returns : goal.returns

@@ -15,6 +15,6 @@ returns-in_err-number-clause-reads c =
 pub returns-clause-reads : goal.returns-clause-reads
 returns-clause-reads c =
     let again : cast_signed w32 c.in_ok-number.number ≡ cast_signed w32 (cast_unsigned w32 c.cast_signed.result) =
-        ap (cast_signed w32) (sym (ap (cast_unsigned w32) c.cast_signed.ensures ∙ of_z-to_z w32 c.in_ok-number.number (search rules))) in
+    ap (cast_signed w32) (sym (ap (cast_unsigned w32) c.cast_signed.ensures ∙ of_z-to_z w32 c.in_ok-number.number (search rules))) in
     argument_good _ _ c.in_ok-number.number _ _ c.in_ok-number.ensures.reads
     ∙ ap (λ (n : ℤ). got (value.Int n ∷ []) c.four.new.self.at c.four.new.self.rest.now) again

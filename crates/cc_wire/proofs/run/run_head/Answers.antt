@@ -54,6 +54,8 @@ returns-then-not-has_registers-clause-reads c =
 
 pub returns-clause-reads : goal.returns-clause-reads
 returns-clause-reads c =
-    let fits : has_frame c.in_ok-depth.depth ≡ true = grind (arith, nat_tests, c.if-depth-eq-MOST_FRAMES.false) in
-    (c.in-Some.function.now, heads.good_head _ _ _ _ _ _ c.in_ok-method.ensures.reads _ c.in-Some.ensures _ _ _ c.in_ok-instructions.ensures.reads _ _ _ c.in_ok-words.ensures.reads _ _ _ c.in_ok-depth.ensures.reads
-    fits _ _ _ c.in_ok-registers.ensures.reads (sym c.has_registers.ensures ∙ c.if-not-has_registers.false))
+    let fits : has_frame c.in_ok-depth.depth ≡ true = grind (arith, nat_tests, c.if-depth-eq-MOST_FRAMES.false) in (
+      c.in-Some.function.now,
+      heads.good_head _ _ _ _ _ _ c.in_ok-method.ensures.reads _ c.in-Some.ensures _ _ _ c.in_ok-instructions.ensures.reads _ _ _ c.in_ok-words.ensures.reads _ _ _ c.in_ok-depth.ensures.reads
+          fits _ _ _ c.in_ok-registers.ensures.reads (sym c.has_registers.ensures ∙ c.if-not-has_registers.false),
+    )
