@@ -1,5 +1,7 @@
 //! Images of a function's entry and end, to the byte.
 
+ghost use Rattle.std.specs.Prelude.{◌<◌, ◌^◌, length};
+
 use crate::sample::{ADDS_ONE, RUN};
 use cc_meaning::fault::ImageFault;
 use cc_meaning::value::Value;
@@ -32,7 +34,9 @@ fn an_entry_is_read_and_written(rt: HostRuntime) -> Result<(), Fail> {
 }
 
 /// A letter for a fault of a Run's bytes, and where it is.
-fn fault_of(rt: &impl Abort, bytes: &[u8], alloc: Global) -> Result<(char, u32), Fail> {
+fn fault_of(rt: &impl Abort, bytes: &[u8], alloc: Global) -> Result<(char, u32), Fail>
+    requires { length bytes.now < 2 ^ 32 }
+{
     let Some(plain) = read_plain(alloc, &ADDS_ONE)? else {
         assert!(rt; false);
         return Ok(('?', 0));
@@ -51,7 +55,9 @@ fn fault_of(rt: &impl Abort, bytes: &[u8], alloc: Global) -> Result<(char, u32),
 fn changed(rt: &impl Abort, at: usize, to: u8, alloc: Global) -> Result<(char, u32), Fail> {
     let mut bytes = [0u8; 36];
     bytes.copy_from_slice(&RUN[HEAD..]);
-    bytes[at] = to;
+    if let Some(byte) = bytes.get_mut(at) {
+        *byte = to;
+    }
     fault_of(rt, &bytes, alloc)
 }
 

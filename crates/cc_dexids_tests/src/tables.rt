@@ -2,7 +2,6 @@
 
 use crate::sample::SAMPLE;
 use cc_dexids::read_ids;
-use cc_meaning::file::{FieldRow, MethodRow};
 use std::test::Fail;
 
 #[test]
@@ -34,37 +33,16 @@ fn reads_members(rt: HostRuntime) -> Result<(), Fail> {
         assert_eq!(rt; proto.result, result);
         assert_eq!(rt; proto.params.as_slice(), params);
     }
-    let fields = [
-        FieldRow {
-            class: 0,
-            kind: 1,
-            name: 0,
-        },
-        FieldRow {
-            class: 6,
-            kind: 6,
-            name: 10,
-        },
-    ];
-    assert!(rt; ids.fields.as_slice() == fields.as_slice());
-    let methods = [
-        MethodRow {
-            class: 0,
-            proto: 0,
-            name: 9,
-        },
-        MethodRow {
-            class: 6,
-            proto: 1,
-            name: 8,
-        },
-        MethodRow {
-            class: 3,
-            proto: 2,
-            name: 0,
-        },
-    ];
-    assert!(rt; ids.methods.as_slice() == methods.as_slice());
+    let fields = [(0, 1, 0), (6, 6, 10)];
+    assert_eq!(rt; ids.fields.len(), fields.len());
+    for (row, wanted) in ids.fields.iter().zip(fields) {
+        assert_eq!(rt; (row.class, row.kind, row.name), wanted);
+    }
+    let methods = [(0, 0, 9), (6, 1, 8), (3, 2, 0)];
+    assert_eq!(rt; ids.methods.len(), methods.len());
+    for (row, wanted) in ids.methods.iter().zip(methods) {
+        assert_eq!(rt; (row.class, row.proto, row.name), wanted);
+    }
     Ok(())
 }
 

@@ -49,7 +49,7 @@ fn frames_are_entered_anew(rt: HostRuntime) -> Result<(), Fail> {
         (thread.top().method, thread.top().pc, thread.registers()),
         (4, 12, 7)
     );
-    assert!(rt; *thread.top().cells.at(4) == Cell::Value(Value::Int(9)));
+    assert!(rt; matches!(thread.top().cells.at(4), Cell::Value(Value::Int(9))));
     thread.pop();
     assert_eq!(rt;
         (thread.top().method, thread.top().pc, thread.registers()),
@@ -64,6 +64,12 @@ fn frames_are_entered_anew(rt: HostRuntime) -> Result<(), Fail> {
         ),
         (5, 0, 6)
     );
-    assert!(rt; thread.top().cells.iter().all(|cell| *cell == Cell::Unset));
+    assert!(rt;
+        thread
+            .top()
+            .cells
+            .iter()
+            .all(|cell| matches!(cell, Cell::Unset))
+    );
     Ok(())
 }
