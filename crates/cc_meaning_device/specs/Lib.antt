@@ -1,0 +1,4 @@
+pub mod Merging
+pub mod Received
+pub mod Laws
+pub mod Worked
