@@ -1,4 +1,5 @@
 pub mod Merging
 pub mod Received
 pub mod Laws
+pub mod Straight
 pub mod Worked
