@@ -12,7 +12,8 @@ use cc_meaning::lists::Bytes;
 use cc_meaning::report::Limits;
 use cc_meaning_plain::{Plain, law_plain_reports, law_plain_returns};
 use cc_outside::{ReadEnd, Shelf};
-use cc_plain::{read_plain, run};
+use cc_machine::run;
+use cc_plain::read_plain;
 use cc_plan::Plan;
 use std::alloc::{AllocError, Global};
 

@@ -6,7 +6,8 @@ ghost use Rattle.cc_cli.specs.Runs.{Outside, Runs};
 ghost use Rattle.cc_cli.specs.Statuses.{Statuses};
 
 use crate::command::plan;
-use cc_outside::{Link, Shelf, Sink};
+use cc_outside::{Shelf, Sink};
+use cc_link::Link;
 use cc_plan::carry_out;
 use std::alloc::Global;
 

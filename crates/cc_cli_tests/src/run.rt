@@ -8,7 +8,8 @@ use cc_cli::run_words;
 use cc_meaning::file::{Files, ShelfFile};
 use cc_meaning::lists::{Bytes, CallList};
 use cc_meaning::text::Text;
-use cc_outside::{CannedEnd, CannedLink, MemoryShelf, MemorySink};
+use cc_link::{CannedEnd, CannedLink};
+use cc_outside::{MemoryShelf, MemorySink};
 use std::alloc::{AllocError, Global};
 use std::test::Fail;
 

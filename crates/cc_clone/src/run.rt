@@ -18,7 +18,7 @@ use cc_meaning::value::Value;
 use cc_meaning_clone::run_laws;
 use cc_meaning_images::law_run_is_spelled;
 use cc_meaning_plain::Plain;
-use cc_plain::run_function;
+use cc_machine::run_function;
 use cc_wire::{decode_run, encode_back, function_numbered};
 use std::alloc::{AllocError, Global};
 

@@ -2,8 +2,6 @@ pub mod Counting
 pub mod Telling
 pub mod Shelves
 pub mod Sinks
-pub mod Links
 pub mod Failing
 pub mod FilesInMemory
 pub mod TextInMemory
-pub mod CannedBytes

@@ -1,5 +1,3 @@
-pub mod Given
-pub mod Stages
 pub mod RowLemmas
 pub mod TextLemmas
 pub mod DescriptorLemmas

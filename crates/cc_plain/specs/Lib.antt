@@ -1,5 +1,3 @@
-pub mod Given
-pub mod Progress
 pub mod Ascii
 pub mod Code
 pub mod Uses

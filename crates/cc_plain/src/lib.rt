@@ -1,9 +1,8 @@
-//! Plain files: their reader, and their run.
+//! The reader of plain files.
 #![tactic(auto)]
 
 mod bytes;
 mod code;
-mod function;
 mod functions;
 mod header;
 mod instructions;
@@ -12,9 +11,6 @@ mod members;
 mod methods;
 mod names;
 mod reader;
-mod running;
 mod uses;
 
-pub use function::run_function;
 pub use reader::read_plain;
-pub use running::run;

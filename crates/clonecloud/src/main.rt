@@ -8,7 +8,7 @@ use crate::disk::DiskShelf;
 use crate::stream::StreamSink;
 use cc_cli::run_words;
 use cc_meaning::lists::Bytes;
-use cc_outside::{CannedEnd, CannedLink};
+use cc_link::{CannedEnd, CannedLink};
 use std::alloc::{AllocError, Global};
 use std::process::ExitCode;
 use std::rt::Env;
