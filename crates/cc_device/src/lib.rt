@@ -1,0 +1,4 @@
+//! The device: a run of a plain file whose moved function is done by a clone.
+#![tactic(auto)]
+
+mod exchange;
