@@ -1,4 +1,5 @@
 //! The device: a run of a plain file whose moved function is done by a clone.
 #![tactic(auto)]
 
+mod contact;
 mod exchange;

@@ -1,0 +1,138 @@
+//! What a device asks of its clone, frame by frame.
+
+ghost use Rattle.std.specs.Prelude.{◌≡◌, ◌↔◌, ◌≤◌, ◌<◌, ◌^◌, length, IfOk};
+ghost use Rattle.cc_link.specs.Links.{NeverFall};
+ghost use Rattle.cc_meaning_images.specs.Forms.{IsRunOf};
+ghost use Rattle.cc_meaning_images.specs.Spelling.{spelled_run};
+ghost use Rattle.cc_meaning_plain.specs.Program.{program_of};
+ghost use Rattle.cc_device.specs.Judging.{wrong_frame, judge_ready, judge_back, any_frame, Exchanges, Opens, JudgedBy, run_bytes};
+
+use crate::exchange::{Halt, await_frame, send_all};
+use cc_framing::frame;
+use cc_link::{Dialed, Link};
+use cc_meaning::fault::{ImageFault, Memory};
+use cc_meaning::frame::Frame;
+use cc_meaning::image::{BackImage, RunImage};
+use cc_meaning::lists::Bytes;
+use cc_meaning::travel::LinkEnd;
+use cc_meaning_plain::Plain;
+use cc_wire::{decode_back, encode_run};
+use std::alloc::Global;
+
+/// The version that both ends speak.
+const VERSION: u8 = 1;
+
+const READY: u8 = 2;
+const RUN: u8 = 3;
+const BACK: u8 = 4;
+const REFUSE: u8 = 5;
+
+/// Sends bytes and awaits a frame.
+fn ask<L: Link>(alloc: Global, link: &mut L, bytes: &[u8], patience: u32) -> Result<Frame, Halt>
+    requires { 1 ≤ patience }
+    ensures exchanges { Exchanges any_frame bytes.now patience (L.known link.old) (L.counts link.old) result (L.known link.new) (L.counts link.new) }
+    ensures counts { NeverFall (L.counts link.old) (L.counts link.new) }
+    ensures honest { L.honest link.old ↔ L.honest link.new }
+{
+    send_all(link, bytes, patience)?;
+    await_frame(alloc, link, patience)
+}
+
+/// The end that a frame which wasn't awaited means.
+#[tactic(auto, unfolding(crate::specs::Judging::wrong_frame))]
+fn wrong_frame(frame: &Frame) -> LinkEnd
+    ensures { result ≡ wrong_frame frame.now }
+{
+    if frame.kind == REFUSE && frame.payload.len() == 1 {
+        LinkEnd::Refused(*frame.payload.at(0))
+    } else {
+        LinkEnd::Unexpected(frame.kind)
+    }
+}
+
+/// Judges the frame that answers a Hello.
+#[tactic(auto, unfolding(crate::specs::Judging::judge_ready))]
+fn judge_ready(frame: &Frame) -> Result<(), Halt>
+    ensures { JudgedBy (judge_ready frame.now) result }
+{
+    if frame.kind == READY && frame.payload.as_slice() == [VERSION] {
+        Ok(())
+    } else {
+        Err(Halt::End(wrong_frame(frame)))
+    }
+}
+
+/// Judges the frame that answers a Run.
+fn judge_back(
+    alloc: Global,
+    plain: &Plain,
+    run: &RunImage,
+    frame: &Frame,
+) -> Result<BackImage, Halt>
+    requires short { length frame.now.payload < 2 ^ 32 }
+    requires sent { IsRunOf (program_of plain.now) run.now }
+    ensures { JudgedBy (judge_back (program_of plain.now) run.now frame.now) result }
+{
+    if frame.kind != BACK {
+        return Err(Halt::End(wrong_frame(frame)));
+    }
+    match decode_back(alloc, frame.payload.as_slice(), plain, run) {
+        Ok(back) => Ok(back),
+        Err(ImageFault::Memory) => Err(Halt::Memory),
+        Err(fault) => Err(Halt::End(LinkEnd::Unfit(fault))),
+    }
+}
+
+/// Makes the link to a clone, and exchanges a Hello for a Ready.
+pub(crate) fn open<L: Link>(
+    alloc: Global,
+    link: &mut L,
+    place: &str,
+    hello: &[u8],
+    patience: u32,
+) -> Result<(), Halt>
+    requires { 1 ≤ patience }
+    ensures opens { Opens hello.now patience (L.known link.old) (L.counts link.old) result (L.known link.new) (L.counts link.new) }
+    ensures counts { NeverFall (L.counts link.old) (L.counts link.new) }
+    ensures honest { L.honest link.old ↔ L.honest link.new }
+{
+    match link.dial(place) {
+        Dialed::Up => {}
+        Dialed::Failed => return Err(Halt::End(LinkEnd::DialFailed)),
+        Dialed::Memory => return Err(Halt::Memory),
+    }
+    let frame = ask(alloc, link, hello, patience)?;
+    judge_ready(&frame)
+}
+
+/// The bytes of a Run's frame.
+fn run_frame(alloc: Global, run: &RunImage) -> Result<Bytes, Memory>
+    requires { length (spelled_run run.now) ≤ 67108864 }
+    ensures { IfOk result (λ bytes. bytes ≡ run_bytes run.now) }
+{
+    let payload = encode_run(alloc, run)?;
+    frame(alloc, RUN, payload.as_slice())
+}
+
+/// Exchanges a Run for its Back.
+pub(crate) fn call<L: Link>(
+    alloc: Global,
+    link: &mut L,
+    plain: &Plain,
+    run: &RunImage,
+    patience: u32,
+) -> Result<BackImage, Halt>
+    requires patient { 1 ≤ patience }
+    requires sent { IsRunOf (program_of plain.now) run.now }
+    requires short { length (spelled_run run.now) ≤ 67108864 }
+    ensures exchanges { Exchanges (judge_back (program_of plain.now) run.now) (run_bytes run.now) patience
+        (L.known link.old) (L.counts link.old) result (L.known link.new) (L.counts link.new) }
+    ensures counts { NeverFall (L.counts link.old) (L.counts link.new) }
+    ensures honest { L.honest link.old ↔ L.honest link.new }
+{
+    let Ok(bytes) = run_frame(alloc, run) else {
+        return Err(Halt::Memory);
+    };
+    let frame = ask(alloc, link, bytes.as_slice(), patience)?;
+    judge_back(alloc, plain, run, &frame)
+}
