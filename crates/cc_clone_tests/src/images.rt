@@ -6,7 +6,7 @@ use crate::sample::{ADDS_ONE, RUN};
 use cc_meaning::fault::ImageFault;
 use cc_meaning::value::Value;
 use cc_plain::read_plain;
-use cc_wire::{decode_run, encode_run};
+use cc_wire::{decode_run, encode_run, function_numbered, method_number};
 use std::alloc::Global;
 use std::process::Abort;
 use std::test::Fail;
@@ -30,6 +30,18 @@ fn an_entry_is_read_and_written(rt: HostRuntime) -> Result<(), Fail> {
     assert!(rt; matches!(image.args.as_slice(), [Value::Int(5)]));
     let bytes = encode_run(rt.alloc(), &image)?;
     assert_eq!(rt; bytes.as_slice(), &RUN[HEAD..]);
+    Ok(())
+}
+
+#[test]
+fn a_function_has_the_number_that_its_run_names(rt: HostRuntime) -> Result<(), Fail> {
+    let Some(plain) = read_plain(rt.alloc(), &ADDS_ONE)? else {
+        assert!(rt; false);
+        return Ok(());
+    };
+    let number = method_number(&plain, 0);
+    assert_eq!(rt; number.to_be_bytes().as_slice(), &RUN[HEAD..HEAD + 4]);
+    assert!(rt; function_numbered(&plain, number).is_some());
     Ok(())
 }
 

@@ -1,3 +1,4 @@
 pub mod Faithful
 pub mod Received
+pub mod Entries
 pub mod Worked

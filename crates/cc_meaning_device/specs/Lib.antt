@@ -2,4 +2,5 @@ pub mod Merging
 pub mod Received
 pub mod Laws
 pub mod Straight
+pub mod Entries
 pub mod Worked

@@ -9,6 +9,6 @@ mod run;
 mod spell;
 
 pub use back::decode_back;
-pub use numbers::function_numbered;
+pub use numbers::{function_numbered, method_number};
 pub use run::decode_run;
 pub use spell::{encode_back, encode_run};

@@ -5,7 +5,7 @@ ghost use Rattle.std.specs.Ordering.{nat_cmp};
 ghost use Rattle.std.specs.Cmp.Lexicographic.{slice_cmp};
 ghost use Rattle.cc_meaning_run.specs.BuiltInMethods.{is_before, built_in_tables, methods_before};
 ghost use Rattle.std.specs.Option.{option_copied};
-ghost use Rattle.cc_meaning_plain.specs.Program.{main_name, before_main};
+ghost use Rattle.cc_meaning_plain.specs.Program.{main_name, before_main, function_number};
 ghost use Rattle.cc_meaning_clone.specs.Functions.{function_place, function_numbered};
 ghost use Rattle.cc_wire.specs.Numbers.{counts_before, rows_of};
 
@@ -142,4 +142,18 @@ pub fn function_numbered(plain: &Plain, method: u32) -> Option<&PlainFunction>
     ensures { option_copied result ≡ function_numbered plain.now method }
 {
     plain.functions.get(function_place(plain, method)?)
+}
+
+/// The number of the method of the function of a place. It takes time in proportion to the functions.
+#[tactic(auto, using(crate::proofs::Counts::few_methods))]
+pub fn method_number(plain: &Plain, function: usize) -> u32
+    requires { function < 2 ^ 31 }
+    ensures { result ≡ function_number plain.now function }
+{
+    let before = first_method(plain.class.as_slice()) + function as u32;
+    if function < before_main(plain.functions.as_slice()) {
+        before
+    } else {
+        before + 1
+    }
 }

@@ -1,0 +1,5 @@
+use Rattle.cc_meaning_device.proofs.Entries.{functions_are_few}
+use Rattle.cc_meaning_device.proofs.law_functions_are_few.Goals as goal
+
+pub returns : goal.returns
+returns c = functions_are_few
