@@ -15,6 +15,7 @@ use cc_meaning::frame::Frame;
 use cc_meaning::image::{BackImage, RunImage};
 use cc_meaning::lists::Bytes;
 use cc_meaning::travel::LinkEnd;
+use cc_meaning_nodes::frame_laws;
 use cc_meaning_plain::Plain;
 use cc_wire::{decode_back, encode_run};
 use std::alloc::Global;
@@ -31,9 +32,11 @@ const REFUSE: u8 = 5;
 fn ask<L: Link>(alloc: Global, link: &mut L, bytes: &[u8], patience: u32) -> Result<Frame, Halt>
     requires { 1 ≤ patience }
     ensures exchanges { Exchanges any_frame bytes.now patience (L.known link.old) (L.counts link.old) result (L.known link.new) (L.counts link.new) }
+    ensures short { IfOk result (λ frame. length frame.payload ≤ 67108864) }
     ensures counts { NeverFall (L.counts link.old) (L.counts link.new) }
     ensures honest { L.honest link.old ↔ L.honest link.new }
 {
+    frame_laws::begins_with_whole();
     send_all(link, bytes, patience)?;
     await_frame(alloc, link, patience)
 }
@@ -55,7 +58,7 @@ fn wrong_frame(frame: &Frame) -> LinkEnd
 fn judge_ready(frame: &Frame) -> Result<(), Halt>
     ensures { JudgedBy (judge_ready frame.now) result }
 {
-    if frame.kind == READY && frame.payload.as_slice() == [VERSION] {
+    if frame.kind == READY && frame.payload.as_slice() == [VERSION].as_slice() {
         Ok(())
     } else {
         Err(Halt::End(wrong_frame(frame)))
@@ -83,6 +86,17 @@ fn judge_back(
     }
 }
 
+/// Exchanges a Hello for a Ready.
+fn greet<L: Link>(alloc: Global, link: &mut L, hello: &[u8], patience: u32) -> Result<(), Halt>
+    requires { 1 ≤ patience }
+    ensures exchanges { Exchanges judge_ready hello.now patience (L.known link.old) (L.counts link.old) result (L.known link.new) (L.counts link.new) }
+    ensures counts { NeverFall (L.counts link.old) (L.counts link.new) }
+    ensures honest { L.honest link.old ↔ L.honest link.new }
+{
+    let frame = ask(alloc, link, hello, patience)?;
+    judge_ready(&frame)
+}
+
 /// Makes the link to a clone, and exchanges a Hello for a Ready.
 pub(crate) fn open<L: Link>(
     alloc: Global,
@@ -97,12 +111,10 @@ pub(crate) fn open<L: Link>(
     ensures honest { L.honest link.old ↔ L.honest link.new }
 {
     match link.dial(place) {
-        Dialed::Up => {}
-        Dialed::Failed => return Err(Halt::End(LinkEnd::DialFailed)),
-        Dialed::Memory => return Err(Halt::Memory),
+        Dialed::Up => greet(alloc, link, hello, patience),
+        Dialed::Failed => Err(Halt::End(LinkEnd::DialFailed)),
+        Dialed::Memory => Err(Halt::Memory),
     }
-    let frame = ask(alloc, link, hello, patience)?;
-    judge_ready(&frame)
 }
 
 /// The bytes of a Run's frame.
@@ -112,6 +124,26 @@ fn run_frame(alloc: Global, run: &RunImage) -> Result<Bytes, Memory>
 {
     let payload = encode_run(alloc, run)?;
     frame(alloc, RUN, payload.as_slice())
+}
+
+/// Exchanges the frame of a Run for its Back.
+fn ask_back<L: Link>(
+    alloc: Global,
+    link: &mut L,
+    plain: &Plain,
+    run: &RunImage,
+    bytes: &[u8],
+    patience: u32,
+) -> Result<BackImage, Halt>
+    requires patient { 1 ≤ patience }
+    requires sent { IsRunOf (program_of plain.now) run.now }
+    ensures exchanges { Exchanges (judge_back (program_of plain.now) run.now) bytes.now patience
+        (L.known link.old) (L.counts link.old) result (L.known link.new) (L.counts link.new) }
+    ensures counts { NeverFall (L.counts link.old) (L.counts link.new) }
+    ensures honest { L.honest link.old ↔ L.honest link.new }
+{
+    let frame = ask(alloc, link, bytes, patience)?;
+    judge_back(alloc, plain, run, &frame)
 }
 
 /// Exchanges a Run for its Back.
@@ -130,9 +162,8 @@ pub(crate) fn call<L: Link>(
     ensures counts { NeverFall (L.counts link.old) (L.counts link.new) }
     ensures honest { L.honest link.old ↔ L.honest link.new }
 {
-    let Ok(bytes) = run_frame(alloc, run) else {
-        return Err(Halt::Memory);
-    };
-    let frame = ask(alloc, link, bytes.as_slice(), patience)?;
-    judge_back(alloc, plain, run, &frame)
+    match run_frame(alloc, run) {
+        Ok(bytes) => ask_back(alloc, link, plain, run, bytes.as_slice(), patience),
+        Err(Memory) => Err(Halt::Memory),
+    }
 }

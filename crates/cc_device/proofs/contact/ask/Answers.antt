@@ -1,0 +1,13 @@
+use Rattle.std.proofs.lemmas.Result.{err_from_is_err_and}
+use Rattle.cc_device.proofs.Judged.{ends_in_sending, came_short}
+use Rattle.cc_device.proofs.contact.ask.Goals as goal
+
+pub returns-in_err-send_all-clause-exchanges : goal.returns-in_err-send_all-clause-exchanges
+returns-in_err-send_all-clause-exchanges g c =
+    let known = g.L.Link.known in
+    let counts = g.L.Link.counts in
+    let r = err_from_is_err_and c.from_residual.result c.from_residual.ensures.1 in
+    rw (r.1, r.2) (ends_in_sending c.args.bytes.now c.args.patience (known c.args.link.now) (counts c.args.link.now) (known c.send_all.new.link) (counts c.send_all.new.link) c.in_err-send_all.field-0.0 c.in_err-send_all.ensures.sends)
+
+pub returns-clause-short : goal.returns-clause-short
+returns-clause-short g c = came_short c.begins_with_whole.ensures _ _ _ c.await_frame.result _ _ c.await_frame.ensures.awaits

@@ -1,0 +1,18 @@
+use Rattle.std.proofs.lemmas.Result.{err_from_is_err_and}
+use Rattle.cc_meaning_plain.specs.Program.{program_of}
+use Rattle.cc_device.specs.Judging.{judge_back}
+use Rattle.cc_device.proofs.Judged.{passed_on, judged_on}
+use Rattle.cc_device.proofs.contact.ask_back.Goals as goal
+
+pub returns-in_err-frame-clause-exchanges : goal.returns-in_err-frame-clause-exchanges
+returns-in_err-frame-clause-exchanges g c =
+    let known = g.L.Link.known in
+    let counts = g.L.Link.counts in
+    let r = err_from_is_err_and c.from_residual.result c.from_residual.ensures.1 in
+    rw (r.1, r.2) (passed_on c.args.bytes.now c.args.patience (known c.args.link.now) (counts c.args.link.now) (known c.ask.new.link) (counts c.ask.new.link) (judge_back (program_of c.args.plain.now) c.args.run.now) c.in_err-frame.field-0.0 c.in_err-frame.ensures.exchanges)
+
+pub returns-clause-exchanges : goal.returns-clause-exchanges
+returns-clause-exchanges g c =
+    let known = g.L.Link.known in
+    let counts = g.L.Link.counts in
+    judged_on c.args.bytes.now c.args.patience (known c.args.link.now) (counts c.args.link.now) (known c.ask.new.link) (counts c.ask.new.link) (judge_back (program_of c.args.plain.now) c.args.run.now) c.in_ok-frame.frame c.judge_back.result c.in_ok-frame.ensures.exchanges c.judge_back.ensures
