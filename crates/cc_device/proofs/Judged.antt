@@ -101,7 +101,7 @@ awaiting_since got patience (ends.Unexpected kind) old mid new n s = absurd s
 awaiting_since got patience (ends.Unfit f) old mid new n s = absurd s
 awaiting_since got patience (ends.Refused status) old mid new n s = absurd s
 
-ends_since : {A : Type 0} (judge : Frame → Result A LinkEnd) (bytes : List ℕ) (patience : ℕ) (sent got : List ℕ) (e : LinkEnd) (old mid new : Counts) → NeverFall old mid → EndsSo judge bytes patience sent got e mid new → EndsSo judge bytes patience sent got e old new
+pub ends_since : {A : Type 0} (judge : Frame → Result A LinkEnd) (bytes : List ℕ) (patience : ℕ) (sent got : List ℕ) (e : LinkEnd) (old mid new : Counts) → NeverFall old mid → EndsSo judge bytes patience sent got e mid new → EndsSo judge bytes patience sent got e old new
 ends_since judge bytes patience sent got e old mid new n (in_sending front none why) = in_sending front none (sending_since patience e old mid new n why)
 ends_since judge bytes patience sent got e old mid new n (in_awaiting all why) = in_awaiting all (awaiting_since got patience e old mid new n why)
 ends_since judge bytes patience sent got e old mid new n (by_frame f all whole judged) = by_frame f all whole judged

@@ -81,7 +81,7 @@ JudgedBy judged (Err halts.Memory) = Unit {0}
 JudgedBy judged (Err (halts.End e)) = judged ≡ Err e
 
 -- the bytes of a Run's frame
-abbrev pub run_bytes : RunImage → List ℕ
+unfoldable pub run_bytes : RunImage → List ℕ
 run_bytes image = frame_bytes run_kind (spelled_run image)
 
 -- ---- opening
@@ -89,5 +89,5 @@ run_bytes image = frame_bytes run_kind (spelled_run image)
 -- the link couldn't be made, and nothing was sent or got; or a Hello was exchanged for a Ready
 pub data Opens (hello : List ℕ) (patience : ℕ) (k : Known) (old : Counts) (r : Result (Unit {0}) Halt) (k' : Known) (new : Counts) : Type 0 where
   not_dialed : k' ≡ k → r ≡ Err (halts.End ends.DialFailed) → Rose old.faults new.faults → Opens hello patience k old r k' new
-  not_begun : r ≡ Err halts.Memory → Opens hello patience k old r k' new
+  not_begun : k' ≡ k → r ≡ Err halts.Memory → Opens hello patience k old r k' new
   dialed : Exchanges judge_ready hello patience k old r k' new → Opens hello patience k old r k' new

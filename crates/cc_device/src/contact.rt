@@ -1,16 +1,19 @@
 //! What a device asks of its clone, frame by frame.
 
-ghost use Rattle.std.specs.Prelude.{◌≡◌, ◌↔◌, ◌≤◌, ◌<◌, ◌^◌, length, IfOk};
+ghost use Rattle.std.specs.Prelude.{◌≡◌, ◌↔◌, ◌≤◌, ◌<◌, ◌^◌, false, length, IfOk};
 ghost use Rattle.cc_link.specs.Links.{NeverFall};
 ghost use Rattle.cc_meaning_images.specs.Forms.{IsRunOf};
 ghost use Rattle.cc_meaning_images.specs.Spelling.{spelled_run};
 ghost use Rattle.cc_meaning_plain.specs.Program.{program_of};
+ghost use Rattle.cc_device.specs.Travelling.{hello_payload, hello_bytes, Reaches};
 ghost use Rattle.cc_device.specs.Judging.{wrong_frame, judge_ready, judge_back, any_frame, Exchanges, Opens, JudgedBy, run_bytes};
 
 use crate::exchange::{Halt, await_frame, send_all};
+use crate::hello::hello_frame;
 use cc_framing::frame;
 use cc_link::{Dialed, Link};
 use cc_meaning::fault::{ImageFault, Memory};
+use cc_meaning::file::Job;
 use cc_meaning::frame::Frame;
 use cc_meaning::image::{BackImage, RunImage};
 use cc_meaning::lists::Bytes;
@@ -27,6 +30,14 @@ const READY: u8 = 2;
 const RUN: u8 = 3;
 const BACK: u8 = 4;
 const REFUSE: u8 = 5;
+
+/// How a device stands with its clone: whether the Ready came, how many Backs were merged, and why no more methods migrate, where that came to be.
+#[derive(Clone, Copy)]
+pub(crate) struct Contact {
+    pub(crate) is_open: bool,
+    pub(crate) merged: u64,
+    pub(crate) end: Option<LinkEnd>,
+}
 
 /// Sends bytes and awaits a frame.
 fn ask<L: Link>(alloc: Global, link: &mut L, bytes: &[u8], patience: u32) -> Result<Frame, Halt>
@@ -98,7 +109,7 @@ fn greet<L: Link>(alloc: Global, link: &mut L, hello: &[u8], patience: u32) -> R
 }
 
 /// Makes the link to a clone, and exchanges a Hello for a Ready.
-pub(crate) fn open<L: Link>(
+fn open<L: Link>(
     alloc: Global,
     link: &mut L,
     place: &str,
@@ -118,6 +129,7 @@ pub(crate) fn open<L: Link>(
 }
 
 /// The bytes of a Run's frame.
+#[tactic(auto, unfolding(crate::specs::Judging::run_bytes))]
 fn run_frame(alloc: Global, run: &RunImage) -> Result<Bytes, Memory>
     requires { length (spelled_run run.now) ≤ 67108864 }
     ensures { IfOk result (λ bytes. bytes ≡ run_bytes run.now) }
@@ -147,7 +159,7 @@ fn ask_back<L: Link>(
 }
 
 /// Exchanges a Run for its Back.
-pub(crate) fn call<L: Link>(
+fn call<L: Link>(
     alloc: Global,
     link: &mut L,
     plain: &Plain,
@@ -164,6 +176,54 @@ pub(crate) fn call<L: Link>(
 {
     match run_frame(alloc, run) {
         Ok(bytes) => ask_back(alloc, link, plain, run, bytes.as_slice(), patience),
+        Err(Memory) => Err(Halt::Memory),
+    }
+}
+
+/// Opens and calls.
+fn open_and_call<L: Link>(
+    alloc: Global,
+    link: &mut L,
+    plain: &Plain,
+    job: &Job,
+    hello: &[u8],
+    run: &RunImage,
+) -> Result<BackImage, Halt>
+    requires patient { 1 ≤ job.now.patience }
+    requires sent { IsRunOf (program_of plain.now) run.now }
+    requires short { length (spelled_run run.now) ≤ 67108864 }
+    ensures reaches { Reaches (program_of plain.now) hello.now job.now.patience run.now false
+        (L.known link.old) (L.counts link.old) result (L.known link.new) (L.counts link.new) }
+    ensures counts { NeverFall (L.counts link.old) (L.counts link.new) }
+    ensures honest { L.honest link.old ↔ L.honest link.new }
+{
+    open(alloc, link, job.place.as_str(), hello, job.patience)?;
+    call(alloc, link, plain, run, job.patience)
+}
+
+/// Calls the clone: a Hello goes first where the Ready didn't come yet.
+pub(crate) fn reach<L: Link>(
+    alloc: Global,
+    link: &mut L,
+    plain: &Plain,
+    job: &Job,
+    run: &RunImage,
+    is_open: bool,
+) -> Result<BackImage, Halt>
+    requires patient { 1 ≤ job.now.patience }
+    requires hello { length (hello_payload job.now) ≤ 67108864 }
+    requires sent { IsRunOf (program_of plain.now) run.now }
+    requires short { length (spelled_run run.now) ≤ 67108864 }
+    ensures reaches { Reaches (program_of plain.now) (hello_bytes job.now) job.now.patience run.now is_open
+        (L.known link.old) (L.counts link.old) result (L.known link.new) (L.counts link.new) }
+    ensures counts { NeverFall (L.counts link.old) (L.counts link.new) }
+    ensures honest { L.honest link.old ↔ L.honest link.new }
+{
+    if is_open {
+        return call(alloc, link, plain, run, job.patience);
+    }
+    match hello_frame(alloc, job) {
+        Ok(hello) => open_and_call(alloc, link, plain, job, hello.as_slice(), run),
         Err(Memory) => Err(Halt::Memory),
     }
 }

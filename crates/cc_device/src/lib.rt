@@ -3,3 +3,4 @@
 
 mod contact;
 mod exchange;
+mod hello;

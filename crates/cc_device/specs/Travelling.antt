@@ -1,0 +1,158 @@
+-- What a run whose moved function is done by a clone comes to, and what is sent and got for it.
+use Rattle.std.specs.Prelude.{◌≡◌, ◌≢◌, ◌⊎◌, ℕ, zero, suc, ◌≤◌, ◌<◌, ◌==◌, Bool, true, false, cond, ℤ, List, [], ◌∷◌, ◌++◌, length, drop, Option, Some, None, is_some, option_map, Result, Ok, Err, slice_set}
+use Rattle.std.specs.List.{flat_map}
+use Rattle.cc_meaning.specs.declared.file.Job.{Job}
+use Rattle.cc_meaning.specs.declared.frame.Frame.{Frame}
+use Rattle.cc_meaning.specs.declared.image.RunImage.{RunImage}
+use Rattle.cc_meaning.specs.declared.image.BackImage.{BackImage}
+use Rattle.cc_meaning.specs.declared.program.Program.{Program}
+use Rattle.cc_meaning.specs.declared.travel.LinkEnd.{LinkEnd}
+use Rattle.cc_meaning.specs.declared.travel.LinkEnd.TheVariants as ends
+use Rattle.cc_meaning_nodes.specs.Frames.{Whole, front_of, Rest, Fails, frames_of}
+use Rattle.cc_meaning_nodes.specs.Talk.{IsPrefixOf}
+use Rattle.cc_meaning_nodes.specs.Clone.{hello_kind, version, frame_bytes}
+use Rattle.cc_meaning_plain.specs.declared.plain.Plain.{Plain}
+use Rattle.cc_meaning_plain.specs.Laws.{AreBytes}
+use Rattle.cc_meaning_plain.specs.Plain.{IsPlain}
+use Rattle.cc_meaning_plain.specs.Program.{function_number, program_of}
+use Rattle.cc_meaning_clone.specs.Hello.{with_length}
+use Rattle.cc_meaning_device.specs.Received.{Received, is_ready}
+use Rattle.cc_meaning_device.specs.Straight.{Course, course_with_line, course_came, called, course_of}
+use Rattle.cc_machine.specs.declared.progress.Progress.{Progress}
+use Rattle.cc_machine.specs.declared.progress.Pause.{Pause}
+use Rattle.cc_machine.specs.declared.progress.Pause.TheVariants as pauses
+use Rattle.cc_machine.specs.Running.{stage_ended}
+use Rattle.cc_outside.specs.Counting.{Rose, RoseBy}
+use Rattle.cc_link.specs.Links.{Known, Counts, known_sent, known_got}
+use Rattle.cc_device.specs.declared.contact.Contact.{Contact}
+use Rattle.cc_device.specs.declared.exchange.Halt.{Halt}
+use Rattle.cc_device.specs.declared.exchange.Halt.TheVariants as halts
+use Rattle.cc_device.specs.Exchanging.{SendingEnds, AwaitingEnds}
+use Rattle.cc_device.specs.Judging.{judge_ready, judge_back, AnswersSo, EndsSo, run_bytes}
+
+-- ---- what is given
+
+-- some bytes are this plain file
+abbrev pub IsOfFile : Plain → Type 0
+IsOfFile plain = (file : List ℕ) × AreBytes file × IsPlain file plain
+
+-- which methods are moved: none, or the function of a place
+abbrev pub moves_of : Plain → Option ℕ → ℕ → Bool
+moves_of plain None m = false
+moves_of plain (Some i) m = m == function_number plain i
+
+-- the name of the main class, empty where none is named
+abbrev pub main_of : Option (List ℕ) → List ℕ
+main_of None = []
+main_of (Some name) = name
+
+-- the payload of a job's Hello, and its frame
+unfoldable pub hello_payload : Job → List ℕ
+hello_payload job = version ∷ with_length (main_of job.main) ++ (with_length job.file ++ with_length job.script)
+
+unfoldable pub hello_bytes : Job → List ℕ
+hello_bytes job = frame_bytes hello_kind (hello_payload job)
+
+-- ---- one call of the clone
+
+-- a Back came: to a Run alone, or to a Run behind the Hello's Ready
+pub data Took (p : Program) (hello : List ℕ) (image : RunImage) (sent got : List ℕ) (back : BackImage) : Bool → Type 0 where
+  called_alone : AnswersSo (judge_back p image) (run_bytes image) sent got back → Took p hello image sent got back true
+  opened_first : (ready : Frame) (first sent_behind more : List ℕ) → sent ≡ hello ++ sent_behind → got ≡ first ++ more → front_of first ≡ Whole ready (length first) → judge_ready ready ≡ Ok tt →
+      AnswersSo (judge_back p image) (run_bytes image) sent_behind more back → Took p hello image sent got back false
+
+-- none came
+pub data Fell (p : Program) (hello : List ℕ) (patience : ℕ) (image : RunImage) (sent got : List ℕ) (e : LinkEnd) (old new : Counts) : Bool → Type 0 where
+  not_reached : e ≡ ends.DialFailed → sent ≡ [] → got ≡ [] → Rose old.faults new.faults → Fell p hello patience image sent got e old new false
+  not_opened : EndsSo judge_ready hello patience sent got e old new → Fell p hello patience image sent got e old new false
+  not_called : EndsSo (judge_back p image) (run_bytes image) patience sent got e old new → Fell p hello patience image sent got e old new true
+  not_called_first : (ready : Frame) (first sent_behind more : List ℕ) → sent ≡ hello ++ sent_behind → got ≡ first ++ more → front_of first ≡ Whole ready (length first) → judge_ready ready ≡ Ok tt →
+      EndsSo (judge_back p image) (run_bytes image) patience sent_behind more e old new → Fell p hello patience image sent got e old new false
+
+abbrev pub ReachedBy : Program → (hello : List ℕ) → (patience : ℕ) → RunImage → (sent got : List ℕ) → Result BackImage Halt → Counts → Counts → (is_open : Bool) → Type 0
+ReachedBy p hello patience image sent got (Ok back) old new is_open = Took p hello image sent got back is_open
+ReachedBy p hello patience image sent got (Err halts.Memory) old new is_open = Unit {0}
+ReachedBy p hello patience image sent got (Err (halts.End e)) old new is_open = Fell p hello patience image sent got e old new is_open
+
+-- what was sent and got for the call, and what it came to
+pub record Reaches (p : Program) (hello : List ℕ) (patience : ℕ) (image : RunImage) (is_open : Bool) (k : Known) (old : Counts) (r : Result BackImage Halt) (k' : Known) (new : Counts) : Type 0 where
+  pub sent : List ℕ
+  pub got : List ℕ
+  pub known : k' ≡ known_got got (known_sent sent k)
+  pub came : ReachedBy p hello patience image sent got r old new is_open
+
+-- ---- a run
+
+-- what a run comes to that paused here and holds this, while the device stands so with its clone
+abbrev pub paused_course : Plain → (moves : ℕ → Bool) → Pause → Progress → Received → Course
+paused_course plain moves (pauses.Done ends) p t = record { stage = stage_ended p ends; received = t }
+paused_course plain moves (pauses.AtEntry entry) p t =
+    course_with_line p.text (course_came (called plain moves entry.function entry.argument p.instructions p.words t)
+    (λ n left words t'. course_of plain moves (slice_set p.numbers entry.to n) (drop p.next plain.main.insns) left words t'))
+
+-- how a device stands with its clone, while these frames come and these images were noted
+abbrev pub received_of : Contact → List RunImage → List Frame → Received
+received_of contact images frames = record { opened = contact.is_open; frames = frames; images = images; merged = contact.merged; fallen = is_some contact.end }
+
+-- Over all frames that may still come the whole run is what is left of it; once the device fell back, no more come.
+abbrev pub GoesSo : Option LinkEnd → (whole : List Frame → Course) → (got : List ℕ) → (left : List Frame → Course) → Type 0
+GoesSo None whole got left = (more : List ℕ) → whole (frames_of (got ++ more)).frames ≡ left (frames_of more).frames
+GoesSo (Some e) whole got left = (frames : List Frame) × (whole (frames_of got).frames ≡ left frames)
+
+-- ---- what is sent
+
+abbrev pub begins_ready : List Frame → Bool
+begins_ready [] = false
+begins_ready (frame ∷ rest) = is_ready frame
+
+-- what is due: the Hello, and once a Ready came a Run for each image
+abbrev pub due : (hello : List ℕ) → List Frame → List RunImage → List ℕ
+due hello frames images = hello ++ cond (begins_ready frames) (flat_map run_bytes images) []
+
+-- ---- how a travel ends
+
+-- the frame that came last is none that was awaited: the first one is to be a Ready, each later one the Back of the last image
+abbrev pub JudgedSo : Program → (before : List Frame) → List RunImage → Frame → LinkEnd → Type 0
+JudgedSo p [] images frame e = judge_ready frame ≡ Err e
+JudgedSo p (first ∷ rest) images frame e = (others : List RunImage) × (image : RunImage) × (images ≡ others ++ image ∷ []) × (judge_back p image frame ≡ Err e)
+
+-- why no frame came that was awaited
+abbrev pub AwaitingEnded : (got : List ℕ) → ℕ → LinkEnd → Counts → Counts → Type 0
+AwaitingEnded got patience ends.DialFailed old new = ⊥
+AwaitingEnded got patience ends.Failed old new = ((rest : List ℕ) × ((frames_of got).ending ≡ Rest rest)) × Rose old.faults new.faults
+AwaitingEnded got patience ends.Ended old new = ((rest : List ℕ) × ((frames_of got).ending ≡ Rest rest)) × Rose old.ends new.ends
+AwaitingEnded got patience (ends.Waited n) old new = ((rest : List ℕ) × ((frames_of got).ending ≡ Rest rest)) × (n ≡ patience) × RoseBy n old.waits new.waits
+AwaitingEnded got patience (ends.BadFrame fault) old new = (frames_of got).ending ≡ Fails fault
+AwaitingEnded got patience (ends.Unexpected kind) old new = ⊥
+AwaitingEnded got patience (ends.Unfit fault) old new = ⊥
+AwaitingEnded got patience (ends.Refused status) old new = ⊥
+
+-- The link couldn't be made; or a front of what is due was sent, and the rest wasn't taken; or all was sent, and no frame came, or another than was awaited.
+pub data EndsTravel (p : Program) (hello : List ℕ) (patience : ℕ) (sent got : List ℕ) (images : List RunImage) (e : LinkEnd) (old new : Counts) : Type 0 where
+  not_dialed : e ≡ ends.DialFailed → sent ≡ [] → got ≡ [] → Rose old.faults new.faults → EndsTravel p hello patience sent got images e old new
+  in_sending : IsPrefixOf sent (due hello (frames_of got).frames images) → (frames_of got).ending ≡ Rest [] → SendingEnds patience e old new → EndsTravel p hello patience sent got images e old new
+  in_awaiting : sent ≡ due hello (frames_of got).frames images → AwaitingEnded got patience e old new → EndsTravel p hello patience sent got images e old new
+  by_frame : (before : List Frame) (frame : Frame) → sent ≡ due hello (frames_of got).frames images → (frames_of got).ending ≡ Rest [] → (frames_of got).frames ≡ before ++ frame ∷ [] →
+      JudgedSo p before images frame e → EndsTravel p hello patience sent got images e old new
+
+-- all that is due was sent, and each answer came whole
+pub record TravelsOn (hello sent got : List ℕ) (images : List RunImage) : Type 0 where
+  pub some : images ≢ []
+  pub all : sent ≡ due hello (frames_of got).frames images
+  pub whole : (frames_of got).ending ≡ Rest []
+  pub ready : begins_ready (frames_of got).frames ≡ true
+
+-- no moved method was entered, and nothing was sent or got
+pub record StaysHome (sent got : List ℕ) (images : List RunImage) : Type 0 where
+  pub none : images ≡ []
+  pub silent : sent ≡ []
+  pub deaf : got ≡ []
+
+-- how the device stands with its clone
+abbrev pub TravelsSo : Program → (hello : List ℕ) → (patience : ℕ) → Contact → (sent got : List ℕ) → List RunImage → Counts → Counts → Type 0
+TravelsSo p hello patience contact sent got images old new = by contact.end contact.is_open
+  where
+    by : Option LinkEnd → Bool → Type 0
+    by None false = StaysHome sent got images
+    by None true = TravelsOn hello sent got images
+    by (Some e) is_open = (images ≢ []) × EndsTravel p hello patience sent got images e old new
