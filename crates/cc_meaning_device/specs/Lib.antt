@@ -3,3 +3,4 @@ pub mod Received
 pub mod Laws
 pub mod Straight
 pub mod Worked
+pub mod WorkedStraight
