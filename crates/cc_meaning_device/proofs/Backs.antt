@@ -122,7 +122,7 @@ behind_is plain head at rest back next more h =
     ∙ ap (λ (ss : List ℕ). back_by_head head ss t2.value) (still_ready at rest t1.value t1.next t1.more t1.first)
     ∙ ap (λ (vs : List Value). back_by_head head (2 ∷ []) vs) statics
 
-result_is : (plain : Plain) (function : ℕ) (f : PlainFunction) → slice_get plain.functions function ≡ Some f → result_of (slice_get (program_of plain).methods (function_number plain function)) ≡ Some (simple base.Int)
+pub result_is : (plain : Plain) (function : ℕ) (f : PlainFunction) → slice_get plain.functions function ≡ Some f → result_of (slice_get (program_of plain).methods (function_number plain function)) ≡ Some (simple base.Int)
 unfolding function_of
 result_is plain function f e = ap result_of ((numbers_methods plain).functions function f e)
 

@@ -1,6 +1,8 @@
 pub mod Backs
 pub mod Courses
 pub mod Faithful
+pub mod Honest
+pub mod RightAnswers
 pub mod Kept
 pub mod Received
 pub mod Worked

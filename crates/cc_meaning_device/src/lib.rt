@@ -4,15 +4,26 @@
 ghost use Rattle.std.specs.Prelude.{List};
 ghost use Rattle.cc_meaning_run.specs.World.{Setting};
 ghost use Rattle.cc_meaning_run.specs.Eval.{Hook};
-ghost use Rattle.cc_meaning_device.specs.Laws.{LeadsTo, FaithfulReports, ReceiverSpends, NothingMoved};
+ghost use Rattle.cc_meaning_device.specs.Laws.{LeadsTo, FaithfulReports, Agrees, FaithfulFrom, ReceiverSpends, NothingMoved};
 ghost use Rattle.cc_meaning_device.specs.Straight.{PlainOffloads};
+ghost use Rattle.cc_meaning_device.specs.Honest.{HonestIsLocal};
 ghost use Rattle.cc_meaning_device.specs.WorkedStraight.{GoesStraight};
 ghost use Rattle.cc_meaning_device.specs.Worked.{FollowsTheFrames, JudgesTheFrames, StopsWithin, CallsTwice};
+
+use cc_meaning_clone::run_laws;
+use cc_meaning_images::law_back_is_read;
+use cc_meaning_plain::law_function_runs;
 
 /// A run whose hook answers entries as the methods would end here reports what the run on one heap reports.
 #[tactic(auto, using(crate::proofs::Faithful::faithful_reports))]
 pub fn law_faithful<T, A>()
     ensures { (hook : Hook T) (s : Setting) (note : T → List A) (noted : List A) → FaithfulReports hook s (LeadsTo note noted) }
+{}
+
+/// The same, where answers are right while two things that are told of what the hook keeps agree, as they do at the start and behind each entry and instruction.
+#[tactic(auto, using(crate::proofs::Faithful::faithful_from))]
+pub fn law_faithful_while<T, A, B>()
+    ensures { (hook : Hook T) (s : Setting) (left right : T → B) (note : T → List A) (noted : List A) → FaithfulFrom hook s (Agrees left right) (LeadsTo note noted) }
 {}
 
 /// No frame gives instructions back.
@@ -31,6 +42,17 @@ pub fn law_nothing_moved()
 pub fn law_plain_offloads()
     ensures { PlainOffloads }
 {}
+
+/// A plain file's run over frames that answer the images that were noted reports what the run on one heap reports.
+pub fn law_honest_is_local()
+    ensures { HonestIsLocal }
+{
+    run_laws::runnable_is();
+    run_laws::runs_have_parts();
+    run_laws::answered_is();
+    law_function_runs::<()>();
+    law_back_is_read();
+}
 
 /// The run over received frames, at a worked example: a moved function adds 1 to 5, once or twice.
 #[tactic(auto, using(crate::proofs::Worked::follows, crate::proofs::Worked::judges, crate::proofs::Worked::stops, crate::proofs::Worked::calls))]
