@@ -1,5 +1,6 @@
 pub mod Backs
 pub mod Courses
+pub mod Exchanges
 pub mod Faithful
 pub mod Honest
 pub mod RightAnswers

@@ -6,13 +6,14 @@ ghost use Rattle.cc_meaning_run.specs.World.{Setting};
 ghost use Rattle.cc_meaning_run.specs.Eval.{Hook};
 ghost use Rattle.cc_meaning_device.specs.Laws.{LeadsTo, FaithfulReports, Agrees, FaithfulFrom, ReceiverSpends, NothingMoved};
 ghost use Rattle.cc_meaning_device.specs.Straight.{PlainOffloads};
-ghost use Rattle.cc_meaning_device.specs.Honest.{HonestIsLocal};
+ghost use Rattle.cc_meaning_device.specs.Honest.{HonestIsLocal, StreamAnswersInOrder};
 ghost use Rattle.cc_meaning_device.specs.WorkedStraight.{GoesStraight};
 ghost use Rattle.cc_meaning_device.specs.Worked.{FollowsTheFrames, JudgesTheFrames, StopsWithin, CallsTwice};
 
-use cc_meaning_clone::run_laws;
+use cc_meaning_clone::{hello_laws, plain_laws, run_laws};
 use cc_meaning_images::law_back_is_read;
-use cc_meaning_plain::law_function_runs;
+use cc_meaning_nodes::frame_laws;
+use cc_meaning_plain::{law_function_runs, law_plain_once};
 
 /// A run whose hook answers entries as the methods would end here reports what the run on one heap reports.
 #[tactic(auto, using(crate::proofs::Faithful::faithful_reports))]
@@ -52,6 +53,20 @@ pub fn law_honest_is_local()
     run_laws::answered_is();
     law_function_runs::<()>();
     law_back_is_read();
+}
+
+/// The frames that come of an exchange with a clone of a plain file answer the images that were sent.
+pub fn law_stream_answers()
+    ensures { StreamAnswersInOrder }
+{
+    frame_laws::goes_on();
+    frame_laws::is_read_again();
+    plain_laws::talk_goes_on();
+    hello_laws::judged_once();
+    law_plain_once();
+    run_laws::runs_have_parts();
+    run_laws::answered_is();
+    run_laws::backs_are_short();
 }
 
 /// The run over received frames, at a worked example: a moved function adds 1 to 5, once or twice.
