@@ -52,7 +52,7 @@ use Rattle.cc_meaning_device.specs.Merging.{statuses_put, statics_put, old_put, 
 use Rattle.cc_meaning_device.specs.Received.{Received, Taken, not_opened, behind_ready, back_of_frames, reply_of, sent_in, entry_of, receiver, offloaded_of, offloaded}
 use Rattle.cc_meaning_device.specs.Straight.{given_here, called_here, entry_image, value_back, came_back, called_there, called, Course, course_ends, course_with_line, course_printing, course_behind, course_came, course_of, course_within, plain_course, offloaded_by, plain_device, PlainOffloads}
 use Rattle.cc_meaning_device.proofs.Received.{taken_by, taken_spends}
-use Rattle.cc_meaning_device.proofs.Kept.{KeepsStill, function_keeps}
+use Rattle.cc_meaning_device.proofs.Kept.{KeepsStill, less_by_less, function_keeps}
 use Rattle.cc_meaning_device.proofs.Backs.{IsIntEnd, gives, stops, IsFunctionBack, function_back}
 
 -- ---- what a run comes to
@@ -145,15 +145,6 @@ unfolding world_put old_put statuses_put statics_put program_of class_number bui
 world_behind plain instructions words events head = refl
 
 -- ---- down the instructions
-
-less_by_less : (n k left : ℕ) → less_by n k ≡ Some left → left ≤ k
-unfolding less_by
-less_by_less zero k left e = let same : k ≡ left = some_same e in omega arith
-  where
-    some_same : {a b : ℕ} → Some a ≡ Some b → a ≡ b
-    some_same e = cc
-less_by_less (suc n) zero left e = cc
-less_by_less (suc n) (suc k) left e = let le = less_by_less n k left e in omega arith
 
 module _ (file : List ℕ) (plain : Plain) (bytes : AreBytes file) (is : IsPlain file plain) (moves : ℕ → Bool) where
   more_done : (done rest : List PlainInsn) (i : PlainInsn) → plain.main.insns ≡ done ++ (i ∷ rest) → plain.main.insns ≡ (done ++ i ∷ []) ++ rest

@@ -34,16 +34,16 @@ use Rattle.cc_meaning_device.proofs.RightAnswers.{answer_is_right}
 -- ---- the frame that was taken
 
 -- a Back was taken: it stood first, and was read
-record WasTaken (p : Program) (run : RunImage) (frames : Option (List Frame)) (taken : Taken) : Type 0 where
-  frame : Frame
-  stood : frames ≡ Some (frame ∷ taken.rest)
-  kind : frame.kind ≡ back_kind
-  read : read_back p run frame.payload ≡ Ok taken.back
+pub record WasTaken (p : Program) (run : RunImage) (frames : Option (List Frame)) (taken : Taken) : Type 0 where
+  pub frame : Frame
+  pub stood : frames ≡ Some (frame ∷ taken.rest)
+  pub kind : frame.kind ≡ back_kind
+  pub read : read_back p run frame.payload ≡ Ok taken.back
 
 some_taken : (a b : Taken) → Some a ≡ Some b → a ≡ b
 some_taken a b e = cc
 
-was_taken : (p : Program) (run : RunImage) (frames : Option (List Frame)) (taken : Taken) → back_of_frames p run frames ≡ Some taken → WasTaken p run frames taken
+pub was_taken : (p : Program) (run : RunImage) (frames : Option (List Frame)) (taken : Taken) → back_of_frames p run frames ≡ Some taken → WasTaken p run frames taken
 unfolding back_of_frames
 was_taken p run None taken e = absurd cc
 was_taken p run (Some []) taken e = absurd cc

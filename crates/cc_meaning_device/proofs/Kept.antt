@@ -59,6 +59,16 @@ one_taken : (n k : ℕ) → less_by (suc n) (suc k) ≡ less_by n k
 unfolding less_by
 one_taken n k = refl
 
+-- no more are left than there were
+pub less_by_less : (n k left : ℕ) → less_by n k ≡ Some left → left ≤ k
+unfolding less_by
+less_by_less zero k left e = let same : k ≡ left = some_same e in omega arith
+  where
+    some_same : {a b : ℕ} → Some a ≡ Some b → a ≡ b
+    some_same e = cc
+less_by_less (suc n) zero left e = cc
+less_by_less (suc n) (suc k) left e = let le = less_by_less n k left e in omega arith
+
 -- ---- down the instructions
 
 module _ {T : Type 0} (hook : Hook T) (still : KeepsStill hook) (plain : Plain) (m : ℕ) (code : PlainCode) (is_code : code_in (program_of plain) m ≡ Some (code_of plain code)) (of : IsOfFunction code.last) where

@@ -1,10 +1,15 @@
 pub mod Backs
+pub mod Counts
 pub mod Courses
+pub mod Entries
 pub mod Exchanges
 pub mod Faithful
 pub mod Honest
 pub mod RightAnswers
 pub mod Kept
+pub mod Noted
 pub mod Received
+pub mod Transparent
 pub mod Worked
 pub mod WorkedStraight
+pub mod WorkedAnswers

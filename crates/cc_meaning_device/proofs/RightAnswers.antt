@@ -43,6 +43,7 @@ use Rattle.cc_meaning_clone.proofs.Functions.{number_of_place}
 use Rattle.cc_meaning_clone.proofs.Answers.{form_is}
 use Rattle.cc_meaning_device.specs.Merging.{Places, holding, held_at, old_put, statuses_put, statics_put, places_in, end_put, world_put}
 use Rattle.cc_meaning_device.proofs.Backs.{result_is}
+use Rattle.cc_meaning_device.proofs.Kept.{less_by_less}
 
 -- ---- merging the image of a function's end
 
@@ -148,18 +149,18 @@ handed (value.Long k ∷ vs) n e = absurd cc
 handed (value.Obj o ∷ vs) n e = absurd cc
 
 -- what a function is of which a Run is
-record Target (plain : Plain) (image : RunImage) : Type 0 where
-  place : ℕ
-  function : PlainFunction
-  argument : ℤ
-  numbered : function_numbered plain image.method ≡ Some function
-  stands : slice_get plain.functions place ≡ Some function
-  method : image.method ≡ function_number plain place
-  args : image.args ≡ value.Int argument ∷ []
-  fits : FitsSigned w32 argument
-  room : image.registers + function.code.registers ≤ 65536
+pub record Target (plain : Plain) (image : RunImage) : Type 0 where
+  pub place : ℕ
+  pub function : PlainFunction
+  pub argument : ℤ
+  pub numbered : function_numbered plain image.method ≡ Some function
+  pub stands : slice_get plain.functions place ≡ Some function
+  pub method : image.method ≡ function_number plain place
+  pub args : image.args ≡ value.Int argument ∷ []
+  pub fits : FitsSigned w32 argument
+  pub room : image.registers + function.code.registers ≤ 65536
 
-target_of : RunnableIs → RunsHaveParts → (plain : Plain) (image : RunImage) → IsRunOf (program_of plain) image → Target plain image
+pub target_of : RunnableIs → RunsHaveParts → (plain : Plain) (image : RunImage) → IsRunOf (program_of plain) image → Target plain image
 target_of runnables parts_of plain image is =
     let parts = parts_of plain image is in
     let f = parts.function in
@@ -184,15 +185,6 @@ target_of runnables parts_of plain image is =
 statuses_stay : (ss : List ℕ) → AreStatuses ss → AreStatusesSince ss ss
 statuses_stay [] h = tt
 statuses_stay (s ∷ ss) h = (h.0, inr refl, statuses_stay ss h.1)
-
-less_by_less : (n k left : ℕ) → less_by n k ≡ Some left → left ≤ k
-unfolding less_by
-less_by_less zero k left e = let same : k ≡ left = some_same e in omega arith
-  where
-    some_same : {a b : ℕ} → Some a ≡ Some b → a ≡ b
-    some_same e = cc
-less_by_less (suc n) zero left e = cc
-less_by_less (suc n) (suc k) left e = let le = less_by_less n k left e in omega arith
 
 left_is_less : (n k : ℕ) (paid : Option ℕ) → less_by n k ≡ paid → left_of paid ≤ k
 left_is_less n k None e = omega arith

@@ -3,5 +3,7 @@ pub mod Received
 pub mod Laws
 pub mod Straight
 pub mod Honest
+pub mod Transparent
 pub mod Worked
 pub mod WorkedStraight
+pub mod WorkedAnswers

@@ -7,11 +7,13 @@ ghost use Rattle.cc_meaning_run.specs.Eval.{Hook};
 ghost use Rattle.cc_meaning_device.specs.Laws.{LeadsTo, FaithfulReports, Agrees, FaithfulFrom, ReceiverSpends, NothingMoved};
 ghost use Rattle.cc_meaning_device.specs.Straight.{PlainOffloads};
 ghost use Rattle.cc_meaning_device.specs.Honest.{HonestIsLocal, StreamAnswersInOrder};
+ghost use Rattle.cc_meaning_device.specs.Transparent.{NotedIsRead, CloneIsTransparent};
 ghost use Rattle.cc_meaning_device.specs.WorkedStraight.{GoesStraight};
+ghost use Rattle.cc_meaning_device.specs.WorkedAnswers.{JudgesAnswers};
 ghost use Rattle.cc_meaning_device.specs.Worked.{FollowsTheFrames, JudgesTheFrames, StopsWithin, CallsTwice};
 
 use cc_meaning_clone::{hello_laws, plain_laws, run_laws};
-use cc_meaning_images::law_back_is_read;
+use cc_meaning_images::{law_back_is_read, law_run_is_spelled};
 use cc_meaning_nodes::frame_laws;
 use cc_meaning_plain::{law_function_runs, law_plain_once};
 
@@ -69,6 +71,25 @@ pub fn law_stream_answers()
     run_laws::backs_are_short();
 }
 
+/// Each image that a plain file's run notes fits in a frame, and is the only one that is read of its bytes.
+pub fn law_noted_is_read()
+    ensures { NotedIsRead }
+{
+    law_plain_offloads();
+    law_run_is_spelled();
+    run_laws::runnable_is();
+    run_laws::runs_have_parts();
+}
+
+/// A plain file's run that is offloaded to a clone of the same file reports what the run on one heap reports.
+pub fn law_clone_is_transparent()
+    ensures { CloneIsTransparent }
+{
+    law_noted_is_read();
+    law_stream_answers();
+    law_honest_is_local();
+}
+
 /// The run over received frames, at a worked example: a moved function adds 1 to 5, once or twice.
 #[tactic(auto, using(crate::proofs::Worked::follows, crate::proofs::Worked::judges, crate::proofs::Worked::stops, crate::proofs::Worked::calls))]
 pub fn worked_frames()
@@ -83,3 +104,11 @@ pub fn worked_frames()
 pub fn worked_straight()
     ensures { GoesStraight }
 {}
+
+/// Which frames answer the image of that example.
+pub fn worked_answers()
+    ensures { JudgesAnswers }
+{
+    law_run_is_spelled();
+    run_laws::worked_images();
+}
