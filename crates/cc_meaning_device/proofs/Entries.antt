@@ -1,169 +1,182 @@
--- The image of a function's entry is one of a Run.
-use Rattle.std.proofs.Common.{◌≡◌, ◌≢◌, ℕ, zero, suc, ◌+◌, ◌-◌, ◌<◌, ◌≤◌, ◌^◌, Bool, true, false, cond, not, ◌&&◌, ◌==◌, List, [], ◌∷◌, ◌++◌, length, take, Some, refl, sym, ap, ◌∙◌, subst, inl, inr, arith, nat_lt, slice_get, codes, All}
-use Rattle.std.specs.Str.{bytes_eq}
-use Rattle.std.proofs.lemmas.Bool.{cases_Bool}
-use Rattle.std.proofs.lemmas.Bool.Decides.{nat_tests}
-use Rattle.std.proofs.lemmas.List.{length-append}
-use Rattle.std.proofs.Math.Seq.{take-append_seam}
-use Rattle.std.proofs.lemmas.List.Elements.{All-get_or}
-use Rattle.std.proofs.lemmas.List.Sorted.{All-permutation, length_permutation}
-use Rattle.std.proofs.lemmas.Option.{slice_get_within, get_or_from_slice_get}
-use Rattle.std.proofs.lemmas.Slice.Eq.{bytes_eq-Decides}
-use Rattle.cc_meaning.specs.declared.instruction.Kind.{Kind}
+-- The image of an entry of a plain file's function is the only one that its bytes spell.
+use Rattle.std.proofs.Common.{◌≡◌, ℕ, zero, suc, ◌/◌, ◌^◌, ◌<◌, ◌≤◌, ℤ, List, [], ◌∷◌, ◌++◌, length, take, drop, refl, sym, ap, ◌∙◌, subst, arith, mod-lt}
+use Rattle.std.specs.Int.{w16, w32, w64, byte_at, bytes_high_first, from_be_bytes, cast_signed, cast_unsigned}
+use Rattle.std.specs.Int.RustNames.{FitsSigned}
+use Rattle.std.specs.List.{AllByRecursion}
+use Rattle.std.proofs.lemmas.Nat.{from_be_bytes-to_be_bytes_2, from_be_bytes-to_be_bytes_4, from_be_bytes-to_be_bytes_8}
+use Rattle.std.proofs.lemmas.Int.{to_z-of_z, ints}
+use Rattle.cc_meaning.specs.declared.value.Value.{Value}
 use Rattle.cc_meaning.specs.declared.value.Value.TheVariants as value
-use Rattle.cc_meaning_run.specs.BuiltInMethods.{BuiltInMethods, built_in_tables, methods_before, is_before, print_stream_methods, object_methods, string_methods, string_builder_methods, message_methods}
-use Rattle.cc_meaning_run.specs.Instructions.{code_of_kind}
-use Rattle.cc_meaning_images.specs.Spelling.{spelled_run}
-use Rattle.cc_meaning_images.specs.Reading.{runnable, runnable_if, runnable_method}
-use Rattle.cc_meaning_images.specs.Forms.{AreValues}
-use Rattle.cc_meaning_plain.specs.declared.plain.Member.{Member}
-use Rattle.cc_meaning_plain.specs.declared.plain.PlainFunction.{PlainFunction}
+use Rattle.cc_meaning.specs.declared.value.Made.{Made}
+use Rattle.cc_meaning.specs.declared.value.Object.{Object}
+use Rattle.cc_meaning.specs.declared.value.Object.TheVariants as object
+use Rattle.cc_meaning.specs.declared.image.RunImage.{RunImage}
+use Rattle.cc_meaning_images.specs.Spelling.{u2, u4, u8, spelled_run}
+use Rattle.cc_meaning_images.specs.Forms.{AreBytes, AreValues, IsRunOf, RunIsSpelled}
+use Rattle.cc_meaning_nodes.specs.Frames.{IsFrame}
 use Rattle.cc_meaning_plain.specs.declared.plain.Plain.{Plain}
-use Rattle.cc_meaning_plain.specs.Code.{Scope}
-use Rattle.cc_meaning_plain.specs.Laws.{NumbersMethods}
-use Rattle.cc_meaning_plain.specs.Plain.{SpellsMembers, IsFunctionMember, AreFunctions, scope_of, IsPlain}
-use Rattle.cc_meaning_plain.specs.Program.{before_main, first_method, main_number, function_number, bare_name, code_of, function_of, program_of}
-use Rattle.cc_meaning_clone.specs.Functions.{is_ordinary, FormIs}
-use Rattle.cc_meaning_device.specs.Entries.{EntryIsRun, EntryIsShort, FunctionsAreFew}
+use Rattle.cc_meaning_plain.specs.Program.{function_number, program_of}
+use Rattle.cc_meaning_clone.specs.Functions.{RunnableIs, RunsHaveParts}
+use Rattle.cc_meaning_clone.proofs.Answers.{form_is}
+use Rattle.cc_meaning_device.specs.Straight.{entry_image}
+use Rattle.cc_meaning_device.specs.Honest.{run_frame, IsReadAsItself}
+use Rattle.cc_meaning_device.proofs.RightAnswers.{target_of}
 
--- ---- how many functions there are
+-- ---- numbers in front
 
--- each method of the class data takes some bytes
-members_fit : (file : List ℕ) (at row : ℕ) (ms : List Member) → SpellsMembers file at row ms → at ≤ length file → at + length ms ≤ length file
-members_fit file at row [] h le = omega arith
-members_fit file at row (m ∷ ms) h le =
-    let rest = members_fit file h.3 m.method ms h.8 h.7.stands.within in
-    omega (arith, rest, h.5.stands.some, h.6.stands.some, h.7.stands.some)
+abbrev pub Bytes : List ℕ → Type 0
+Bytes xs = AllByRecursion (λ b. b < 256) xs
 
-as_many : (file : List ℕ) (scope : Scope) (ms : List Member) (fs : List PlainFunction) → AreFunctions file scope ms fs → length fs ≡ length ms
-as_many file scope [] [] h = refl
-as_many file scope [] (f ∷ fs) h = absurd h
-as_many file scope (m ∷ ms) [] h = absurd h
-as_many file scope (m ∷ ms) (f ∷ fs) h = let rest = as_many file scope ms fs h.1 in omega arith
+is_byte : (i n : ℕ) → byte_at i n < 256
+is_byte zero n = omega arith
+is_byte (suc i) n = mod-lt (n / 256 ^ suc i) (omega arith)
 
-pub functions_are_few : FunctionsAreFew
-functions_are_few file plain is =
-    let methods = is.methods in
-    let listing = is.members_stand in
-    let fit = members_fit file listing.after_counts 0 is.members listing.listed listing.no_virtual.stands.within in
-    let each = as_many file (scope_of plain) (methods.before ++ methods.after) methods.functions methods.are_functions in
-    let same = length_permutation methods.functions plain.functions methods.same in
-    let all : length is.members ≡ length methods.before + suc (length methods.after) = ap length methods.listed ∙ length-append methods.before (methods.main ∷ methods.after) in
-    let but_main = length-append methods.before methods.after in
-    omega (arith, fit, each, same, all, but_main, is.size)
+bytes_high : (count n : ℕ) → Bytes (bytes_high_first count n)
+bytes_high zero n = tt
+bytes_high (suc count) n = (is_byte count n, bytes_high count n)
 
--- ---- numbers
+bytes_joined : (xs ys : List ℕ) → Bytes xs → Bytes ys → Bytes (xs ++ ys)
+bytes_joined [] ys h k = k
+bytes_joined (x ∷ xs) ys h k = (h.0, bytes_joined xs ys h.1 k)
 
-count_methods : List BuiltInMethods → ℕ
-count_methods [] = 0
-count_methods (table ∷ rest) = length table.methods + count_methods rest
+pub each_byte : (xs : List ℕ) → Bytes xs → AreBytes xs
+each_byte [] h i = omega arith
+each_byte (x ∷ xs) h zero = h.0
+each_byte (x ∷ xs) h (suc i) = each_byte xs h.1 i
 
-few_before : (tables : List BuiltInMethods) (name : List ℕ) → methods_before tables name ≤ count_methods tables
-unfolding methods_before count_methods
-few_before [] name = omega arith
-few_before (table ∷ rest) name =
-    let more = few_before rest name in
-    elim (is_before table.class name) as (λ (b : Bool). cond b (length table.methods) 0 + methods_before rest name ≤ length table.methods + count_methods rest) [
-      | true ↦ omega (arith, more)
-      | false ↦ omega (arith, more)
-    ]
+front_2 : (a b : ℕ) (x y : List ℕ) → a < 2 ^ 16 → b < 2 ^ 16 → u2 a ++ x ≡ u2 b ++ y → (a ≡ b) × (x ≡ y)
+front_2 a b x y fa fb e = (sym (from_be_bytes-to_be_bytes_2 a fa) ∙ ap (λ (bytes : List ℕ). from_be_bytes w16 (take 2 bytes)) e ∙ from_be_bytes-to_be_bytes_2 b fb, ap (drop 2) e)
 
-few_first : (plain : Plain) → first_method plain ≤ 67
-unfolding count_methods built_in_tables print_stream_methods object_methods string_methods string_builder_methods message_methods
-few_first plain = let all : count_methods built_in_tables ≡ 67 = refl in omega (arith, few_before built_in_tables plain.class, all)
+front_4 : (a b : ℕ) (x y : List ℕ) → a < 2 ^ 32 → b < 2 ^ 32 → u4 a ++ x ≡ u4 b ++ y → (a ≡ b) × (x ≡ y)
+front_4 a b x y fa fb e = (sym (from_be_bytes-to_be_bytes_4 a fa) ∙ ap (λ (bytes : List ℕ). from_be_bytes w32 (take 4 bytes)) e ∙ from_be_bytes-to_be_bytes_4 b fb, ap (drop 4) e)
 
-module _ (plain : Plain) (i : ℕ) where
-  few_numbers : i < 2 ^ 31 → function_number plain i < 2 ^ 32
-  few_numbers few =
-      let first = few_first plain in
-      elim (nat_lt i (before_main plain.functions)) as (λ (b : Bool). first_method plain + cond b i (i + 1) < 2 ^ 32) [ true ↦ omega (arith, first, few) | false ↦ omega (arith, first, few) ]
+front_8 : (a b : ℕ) (x y : List ℕ) → a < 2 ^ 64 → b < 2 ^ 64 → u8 a ++ x ≡ u8 b ++ y → (a ≡ b) × (x ≡ y)
+front_8 a b x y fa fb e = (sym (from_be_bytes-to_be_bytes_8 a fa) ∙ ap (λ (bytes : List ℕ). from_be_bytes w64 (take 8 bytes)) e ∙ from_be_bytes-to_be_bytes_8 b fb, ap (drop 8) e)
 
-  -- a function isn't main
-  other_number : (function_number plain i == main_number plain) ≡ false
-  other_number = by (nat_lt i (before_main plain.functions)) refl
-    where
-      by : (b : Bool) → nat_lt i (before_main plain.functions) ≡ b → ((first_method plain + cond b i (i + 1)) == main_number plain) ≡ false
-      by true is = grind (arith, nat_tests)
-      by false is = grind (arith, nat_tests)
+-- ---- an image by its parts
 
--- ---- names
+abbrev pub image_by : (m instructions words depth registers status : ℕ) → ℤ → RunImage
+image_by m instructions words depth registers status n = record {
+  method = m;
+  instructions = instructions;
+  words = words;
+  depth = depth;
+  registers = registers;
+  statuses = status ∷ [];
+  args = value.Int n ∷ [];
+  statics = [];
+  literals = [];
+  constants = [];
+  objects = object.Out ∷ [];
+}
 
-not_named : (f : PlainFunction) (bare other : List ℕ) → f.name ≡ bare ++ codes "(I)I" → f.name ≢ other ++ codes "(I)I" → bytes_eq (bare_name f.name) other ≡ false
-not_named f bare other whole differs =
-    elim (cases_Bool (bytes_eq (bare_name f.name) other)) [
-      | inl same ↦ absurd (differs (whole ∙ ap (λ (xs : List ℕ). xs ++ codes "(I)I") (sym is_bare ∙ (bytes_eq-Decides (bare_name f.name) other).0 same)))
-      | inr other ↦ other
-    ]
-  where
-    count : length f.name - 4 ≡ length bare
-    count = let both = ap length whole ∙ length-append bare (codes "(I)I") in omega arith
+-- what stands behind its number
+abbrev tail : List ℕ
+tail = u4 0 ++ (u4 0 ++ 0 ∷ [])
 
-    is_bare : bare_name f.name ≡ bare
-    is_bare = ap (λ (n : ℕ). take n f.name) count ∙ ap (take (length bare)) whole ∙ take-append_seam bare (codes "(I)I")
-
--- what an entry goes by of its function
-record IsCalled (f : PlainFunction) : Type 0 where
-  pub ordinary : is_ordinary f ≡ true
-  pub few_registers : f.code.registers ≤ 16
-
-is_called : (file : List ℕ) (scope : Scope) (m : Member) (f : PlainFunction) → IsFunctionMember file scope m f → IsCalled f
-is_called file scope m f h =
-    let named = h.named in
-    let first : bytes_eq (bare_name f.name) (codes "<init>") ≡ false = not_named f named.bare (codes "<init>") named.whole h.ordinary.0 in
-    let second : bytes_eq (bare_name f.name) (codes "<clinit>") ≡ false = not_named f named.bare (codes "<clinit>") named.whole h.ordinary.1 in
-    record { ordinary = ap (λ (b : Bool). not b && not (bytes_eq (bare_name f.name) (codes "<clinit>"))) first ∙ ap not second; few_registers = h.code.few_registers }
-
-all_with : (f : PlainFunction) (fs : List PlainFunction) → IsCalled f → All IsCalled fs → All IsCalled (f ∷ fs)
-all_with f fs h rest = each
-  where
-    each : All IsCalled (f ∷ fs)
-    each zero d lt = h
-    each (suc k) d lt = rest k d (omega arith)
-
-all_called : (file : List ℕ) (scope : Scope) (ms : List Member) (fs : List PlainFunction) → AreFunctions file scope ms fs → All IsCalled fs
-all_called file scope [] [] h = λ k d lt. absurd (omega arith)
-all_called file scope [] (f ∷ fs) h = absurd h
-all_called file scope (m ∷ ms) [] h = absurd h
-all_called file scope (m ∷ ms) (f ∷ fs) h = all_with f fs (is_called file scope m f h.0) (all_called file scope ms fs h.1)
-
-function_is_called : (file : List ℕ) (plain : Plain) → IsPlain file plain → (i : ℕ) (f : PlainFunction) → slice_get plain.functions i ≡ Some f → IsCalled f
-function_is_called file plain is i f e =
-    let methods = is.methods in
-    let all = All-permutation IsCalled methods.functions plain.functions methods.same (all_called file (scope_of plain) (methods.before ++ methods.after) methods.functions methods.are_functions) in
-    subst (λ (g : PlainFunction). IsCalled g) (get_or_from_slice_get plain.functions i f f e) (All-get_or IsCalled plain.functions i f (slice_get_within plain.functions i f e) all)
-
--- ---- the image
-
-runs_function : (plain : Plain) → NumbersMethods plain → (i : ℕ) (f : PlainFunction) → slice_get plain.functions i ≡ Some f → is_ordinary f ≡ true →
-    runnable (program_of plain) (function_number plain i) ≡ Some (record { method = function_of plain f; code = code_of plain f.code })
-unfolding runnable program_of function_of code_of_kind
-runs_function plain numbers i f e ordinary =
-    ap (runnable_method (program_of plain) (function_number plain i)) (numbers.functions i f e)
-    ∙ rw (other_number plain i) (ap (λ (b : Bool). runnable_if b (function_of plain f) (Some (code_of plain f.code))) ordinary)
-
-pub entry_is_run : ((plain : Plain) → NumbersMethods plain) → ((plain : Plain) → FormIs plain) → EntryIsRun
-entry_is_run numbers forms file plain i f n instructions words bytes is e fits few_instructions few_words =
-    let form = forms plain in
-    let called = function_is_called file plain is i f e in
-    let main = is.methods.is_main.code.few_registers in
-    record {
-      target = record { method = function_of plain f; code = code_of plain f.code };
-      runs = runs_function plain (numbers plain) i f e called.ordinary;
-      method_number = few_numbers plain i (omega (arith, slice_get_within plain.functions i f e, functions_are_few file plain is));
-      instructions = few_instructions;
-      words = few_words;
-      some_frame = omega arith;
-      room_for_frame = omega arith;
-      room_for_registers = omega (arith, main, called.few_registers);
-      all_statuses = sym form.one_class;
-      statuses = (omega arith, tt);
-      args = subst (λ (ks : List Kind). AreValues ks (value.Int n ∷ [])) (sym (form.one_argument f)) (fits, tt);
-      statics = subst (λ (ks : List Kind). AreValues ks []) (sym form.no_statics) tt;
-      no_literals = refl;
-      no_constants = refl;
-      out_alone = refl;
-    }
-
-pub entry_is_short : EntryIsShort
+spelled_parts : (m instructions words depth registers status : ℕ) (n : ℤ) →
+    spelled_run (image_by m instructions words depth registers status n) ≡ u4 m ++ (u8 instructions ++ (u4 words ++ (u2 depth ++ (u4 registers ++ (status ∷ (u4 (cast_unsigned w32 n) ++ tail))))))
 unfolding spelled_run
-entry_is_short plain i n instructions words = omega arith
+spelled_parts m instructions words depth registers status n = refl
+
+-- its numbers fit their places
+record Fit (m instructions words depth registers : ℕ) (n : ℤ) : Type 0 where
+  fits_m : m < 2 ^ 32
+  fits_instructions : instructions < 2 ^ 64
+  fits_words : words < 2 ^ 32
+  fits_depth : depth < 2 ^ 16
+  fits_registers : registers < 2 ^ 32
+  fits_n : FitsSigned w32 n
+
+unsigned_below : (z : ℤ) → FitsSigned w32 z → cast_unsigned w32 z < 2 ^ 32
+unsigned_below z h = omega (arith, ints)
+
+same_number : (a b : ℤ) → FitsSigned w32 a → FitsSigned w32 b → cast_unsigned w32 a ≡ cast_unsigned w32 b → a ≡ b
+same_number a b fa fb e = sym (to_z-of_z w32 a fa) ∙ ap (cast_signed w32) e ∙ to_z-of_z w32 b fb
+
+first_same : (x y : ℕ) (xs ys : List ℕ) → x ∷ xs ≡ y ∷ ys → (x ≡ y) × (xs ≡ ys)
+first_same x y xs ys e = (cc, cc)
+
+-- two images that are spelled alike are one
+same_parts : (m i w d r s : ℕ) (n : ℤ) (m' i' w' d' r' s' : ℕ) (n' : ℤ) → Fit m i w d r n → Fit m' i' w' d' r' n' →
+    spelled_run (image_by m i w d r s n) ≡ spelled_run (image_by m' i' w' d' r' s' n') → image_by m i w d r s n ≡ image_by m' i' w' d' r' s' n'
+same_parts m i w d r s n m' i' w' d' r' s' n' f g e =
+    let all = sym (spelled_parts m i w d r s n) ∙ e ∙ spelled_parts m' i' w' d' r' s' n' in
+    let one = front_4 m m' _ _ f.fits_m g.fits_m all in
+    let two = front_8 i i' _ _ f.fits_instructions g.fits_instructions one.1 in
+    let three = front_4 w w' _ _ f.fits_words g.fits_words two.1 in
+    let four = front_2 d d' _ _ f.fits_depth g.fits_depth three.1 in
+    let five = front_4 r r' _ _ f.fits_registers g.fits_registers four.1 in
+    let six = first_same s s' _ _ five.1 in
+    let seven = front_4 (cast_unsigned w32 n) (cast_unsigned w32 n') tail tail (unsigned_below n f.fits_n) (unsigned_below n' g.fits_n) six.1 in
+    ap (λ (x : ℕ). image_by x i w d r s n) one.0
+    ∙ ap (λ (x : ℕ). image_by m' x w d r s n) two.0
+    ∙ ap (λ (x : ℕ). image_by m' i' x d r s n) three.0
+    ∙ ap (λ (x : ℕ). image_by m' i' w' x r s n) four.0
+    ∙ ap (λ (x : ℕ). image_by m' i' w' d' x s n) five.0
+    ∙ ap (λ (x : ℕ). image_by m' i' w' d' r' x n) six.0
+    ∙ ap (λ (x : ℤ). image_by m' i' w' d' r' s' x) (same_number n n' f.fits_n g.fits_n seven.0)
+
+-- ---- what is read
+
+no_values : (vs : List Value) → AreValues [] vs → vs ≡ []
+no_values [] h = refl
+no_values (v ∷ vs) h = absurd h
+
+-- a Run of a plain file is an image by its parts
+parts_are : (plain : Plain) (image : RunImage) (s : ℕ) (n : ℤ) → IsRunOf (program_of plain) image → image.statuses ≡ s ∷ [] → image.args ≡ value.Int n ∷ [] →
+    image ≡ image_by image.method image.instructions image.words image.depth image.registers s n
+parts_are plain image s n is statuses args =
+    let statics = no_values image.statics (subst (λ ks. AreValues ks image.statics) (form_is plain).no_statics is.statics) in
+    ap (λ (ss : List ℕ). record image { statuses = ss }) statuses
+    ∙ ap (λ (vs : List Value). record image { statuses = s ∷ []; args = vs }) args
+    ∙ ap (λ (vs : List Value). record image { statuses = s ∷ []; args = value.Int n ∷ []; statics = vs }) statics
+    ∙ ap (λ (ms : List Made). record image { statuses = s ∷ []; args = value.Int n ∷ []; statics = []; literals = ms }) is.no_literals
+    ∙ ap (λ (ms : List Made). record image { statuses = s ∷ []; args = value.Int n ∷ []; statics = []; literals = []; constants = ms }) is.no_constants
+    ∙ ap (λ (os : List Object). record image { statuses = s ∷ []; args = value.Int n ∷ []; statics = []; literals = []; constants = []; objects = os }) is.out_alone
+
+pub entry_bytes : (m i w d r : ℕ) (n : ℤ) → Bytes (spelled_run (image_by m i w d r 2 n))
+entry_bytes m i w d r n =
+    let z = cast_unsigned w32 n in
+    let out : Bytes (0 ∷ []) = (omega arith, tt) in
+    let last : Bytes tail = bytes_joined (u4 0) (u4 0 ++ 0 ∷ []) (bytes_high 4 0) (bytes_joined (u4 0) (0 ∷ []) (bytes_high 4 0) out) in
+    let six : List ℕ = 2 ∷ (u4 z ++ tail) in
+    let five : List ℕ = u4 r ++ six in
+    let four : List ℕ = u2 d ++ five in
+    let three : List ℕ = u4 w ++ four in
+    let two : List ℕ = u8 i ++ three in
+    let behind : Bytes six = (omega arith, bytes_joined (u4 z) tail (bytes_high 4 z) last) in
+    let all : Bytes (u4 m ++ two) =
+    bytes_joined (u4 m) two (bytes_high 4 m)
+    (bytes_joined (u8 i) three (bytes_high 8 i) (bytes_joined (u4 w) four (bytes_high 4 w) (bytes_joined (u2 d) five (bytes_high 2 d) (bytes_joined (u4 r) six (bytes_high 4 r) behind)))) in
+    subst (λ (bytes : List ℕ). Bytes bytes) (sym (spelled_parts m i w d r 2 n)) all
+
+-- the image of an entry of a function of which `main` has few registers, where its numbers fit
+pub entry_is_itself : RunIsSpelled → RunnableIs → RunsHaveParts → (plain : Plain) (place i w : ℕ) (n : ℤ) → function_number plain place < 2 ^ 32 → i < 2 ^ 64 → w < 2 ^ 32 → plain.main.registers ≤ 16 → FitsSigned w32 n →
+    IsReadAsItself plain (entry_image plain place n i w)
+entry_is_itself spelled runnables parts_of plain place i w n few_m few_i few_w few_registers fits other read =
+    let m = function_number plain place in
+    let r = plain.main.registers in
+    let is = spelled (program_of plain) (spelled_run (image_by m i w 1 r 2 n)) other (each_byte (spelled_run (image_by m i w 1 r 2 n)) (entry_bytes m i w 1 r n)) read in
+    let is_run = is.1 in
+    let parts = parts_of plain other is_run in
+    let t = target_of runnables parts_of plain other is_run in
+    let by_parts = parts_are plain other parts.status t.argument is_run parts.statuses t.args in
+    let other_fits : Fit other.method other.instructions other.words other.depth other.registers t.argument =
+    record {
+      fits_m = is_run.method_number;
+      fits_instructions = omega (arith, is_run.instructions);
+      fits_words = omega (arith, is_run.words);
+      fits_depth = omega (arith, is_run.room_for_frame);
+      fits_registers = omega (arith, t.room);
+      fits_n = t.fits;
+    } in
+    let here_fits : Fit m i w 1 r n = record { fits_m = few_m; fits_instructions = few_i; fits_words = few_w; fits_depth = omega arith; fits_registers = omega arith; fits_n = fits } in
+    let same : other ≡ image_by m i w 1 r 2 n =
+    by_parts ∙ same_parts other.method other.instructions other.words other.depth other.registers parts.status t.argument m i w 1 r 2 n other_fits here_fits (ap spelled_run (sym by_parts) ∙ is.0) in
+    (same, subst (λ (image : RunImage). IsRunOf (program_of plain) image) same is_run)
+
+pub entry_is_frame : (plain : Plain) (place i w : ℕ) (n : ℤ) → IsFrame (run_frame (entry_image plain place n i w))
+entry_is_frame plain place i w n =
+    let long : length (spelled_run (entry_image plain place n i w)) ≡ 36 = ap length (spelled_parts (function_number plain place) i w 1 plain.main.registers 2 n) in
+    record { low = omega arith; high = omega arith; short = omega (arith, long) }

@@ -21,14 +21,14 @@ use Rattle.cc_meaning_device.specs.Received.{Device, Received, not_opened, behin
 use Rattle.cc_meaning_device.specs.Laws.{IsRight, Faithful, ReceiverSpends, NothingMoved}
 use Rattle.cc_meaning_device.proofs.Faithful.{faithful_reports}
 
-back_spends : (p : Program) (run : RunImage) (bytes : List ℕ) (image : BackImage) → read_back p run bytes ≡ Ok image → image.instructions ≤ run.instructions
+pub back_spends : (p : Program) (run : RunImage) (bytes : List ℕ) (image : BackImage) → read_back p run bytes ≡ Ok image → image.instructions ≤ run.instructions
 unfolding read_back
 back_spends p run bytes image e =
     let w = was_whole (back_fits run) (reading (back_head (result_of (slice_get p.methods run.method)) 0 bytes) (λ head at rest. back_behind p run.statuses head at rest)) image e in
     leb-true _ _ (and_parts _ _ w.in_range).0
 
 -- a Back is taken where it was read
-taken_by : (kind : Bool) (rest : List Frame) (r : Result BackImage ImageFault) (taken : Taken) → cond kind (read_as rest r) None ≡ Some taken → r ≡ Ok taken.back
+pub taken_by : (kind : Bool) (rest : List Frame) (r : Result BackImage ImageFault) (taken : Taken) → cond kind (read_as rest r) None ≡ Some taken → r ≡ Ok taken.back
 taken_by true rest (Ok back) taken e = ap Ok (ap Taken.back (some_is (record { back = back; rest = rest }) taken e))
   where
     some_is : (a b : Taken) → Some a ≡ Some b → a ≡ b
@@ -36,7 +36,7 @@ taken_by true rest (Ok back) taken e = ap Ok (ap Taken.back (some_is (record { b
 taken_by true rest (Err fault) taken e = absurd cc
 taken_by false rest r taken e = absurd cc
 
-taken_spends : (p : Program) (run : RunImage) (frames : Option (List Frame)) (taken : Taken) → back_of_frames p run frames ≡ Some taken → taken.back.instructions ≤ run.instructions
+pub taken_spends : (p : Program) (run : RunImage) (frames : Option (List Frame)) (taken : Taken) → back_of_frames p run frames ≡ Some taken → taken.back.instructions ≤ run.instructions
 unfolding back_of_frames
 taken_spends p run None taken e = absurd cc
 taken_spends p run (Some []) taken e = absurd cc

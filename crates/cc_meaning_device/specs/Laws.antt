@@ -29,9 +29,32 @@ abbrev pub FaithfulReports : {T : Type 0} → Hook T → Setting → (T → Type
 FaithfulReports {T} hook s Leads = HookSpends hook → Faithful hook s Leads → (args : List (List ℕ)) (limits : Limits) (t : T) →
     Leads (at_end (run_with hook s args limits t)) → report_of limits (run_with hook s args limits t) ≡ local s args limits
 
+-- ---- the same, where an answer need be right only while something holds of what is kept
+
+-- what a reply leaves
+abbrev pub left_by : {T : Type 0} → Reply T → T
+left_by (Here t) = t
+left_by (Answer e w t) = t
+
+-- each entry and each instruction keeps what holds, and while it holds every answer is right
+pub record FaithfulWhile {T : Type 0} (hook : Hook T) (s : Setting) (Holds Leads : T → Type 0) : Type 0 where
+  pub kept : (m : ℕ) (args : List Value) (stack : Stack) (w : World) (t : T) → Holds t → Holds (left_by (hook.entry m args stack w t))
+  pub entry : (m : ℕ) (args : List Value) (stack : Stack) (w : World) (t : T) → Holds t → IsRight s Leads m args stack w t (hook.entry m args stack w t)
+  pub still : (depth : ℕ) (called : List ℕ) (t : T) → Holds t → Holds (hook.turned depth called t)
+  pub turned : (depth : ℕ) (called : List ℕ) (t : T) → Holds t → Leads (hook.turned depth called t) → Leads t
+
+-- where it holds at the start
+abbrev pub FaithfulFrom : {T : Type 0} → Hook T → Setting → (Holds Leads : T → Type 0) → Type 0
+FaithfulFrom {T} hook s Holds Leads = HookSpends hook → FaithfulWhile hook s Holds Leads → (args : List (List ℕ)) (limits : Limits) (t : T) → Holds t →
+    Leads (at_end (run_with hook s args limits t)) → report_of limits (run_with hook s args limits t) ≡ local s args limits
+
 -- it leads there where all that was noted so far stands first in what is noted at the end
 abbrev pub LeadsTo : {T A : Type 0} → (T → List A) → (noted : List A) → T → Type 0
 LeadsTo {T} {A} note noted t = (rest : List A) × (note t ++ rest ≡ noted)
+
+-- two things that are told of what is kept agree
+abbrev pub Agrees : {T B : Type 0} → (left right : T → B) → T → Type 0
+Agrees left right t = left t ≡ right t
 
 -- ---- the run over received frames
 

@@ -3,4 +3,8 @@ pub mod Received
 pub mod Laws
 pub mod Straight
 pub mod Entries
+pub mod Honest
+pub mod Transparent
 pub mod Worked
+pub mod WorkedStraight
+pub mod WorkedAnswers

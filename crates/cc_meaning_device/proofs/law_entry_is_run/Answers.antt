@@ -1,4 +1,4 @@
-use Rattle.cc_meaning_device.proofs.Entries.{entry_is_run}
+use Rattle.cc_meaning_device.proofs.EntryForms.{entry_is_run}
 use Rattle.cc_meaning_device.proofs.law_entry_is_run.Goals as goal
 
 pub returns : goal.returns

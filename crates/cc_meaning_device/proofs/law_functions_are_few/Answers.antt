@@ -1,4 +1,4 @@
-use Rattle.cc_meaning_device.proofs.Entries.{functions_are_few}
+use Rattle.cc_meaning_device.proofs.EntryForms.{functions_are_few}
 use Rattle.cc_meaning_device.proofs.law_functions_are_few.Goals as goal
 
 pub returns : goal.returns
