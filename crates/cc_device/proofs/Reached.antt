@@ -23,6 +23,13 @@ both : (a b c d : List ℕ) (k : Known) → known_got d (known_sent c (known_got
 both a b c d k =
     ap (λ (j : Known). known_got d (known_got b j)) (sym (sent-sent a c k)) ∙ sym (got-got b d (known_sent (a ++ c) k))
 
+as_end : LinkEnd → Result (Unit {0}) Halt
+as_end e = Err (halts.End e)
+
+end_is : (e : LinkEnd) → as_end e ≡ as_end ends.DialFailed → e ≡ ends.DialFailed
+unfolding as_end
+end_is e h = cc
+
 module _ (p : Program) (hello : List ℕ) (patience : ℕ) (image : RunImage) (k : Known) (old : Counts) where
   pub halts_before : (new : Counts) (is_open : Bool) → Reaches p hello patience image is_open k old (Err halts.Memory) k new
   halts_before new is_open = record { sent = []; got = []; known = sym (got-nil (known_sent [] k) ∙ sent-nil k); came = tt }
@@ -33,13 +40,11 @@ module _ (p : Program) (hello : List ℕ) (patience : ℕ) (image : RunImage) (k
   reached_alone (Err (halts.End e)) k' new x = record { sent = x.sent; got = x.got; known = x.known; came = not_called x.came }
 
   pub unopened : (halt : Halt) (k' : Known) (new : Counts) → Opens hello patience k old (Err halt) k' new → Reaches p hello patience image false k old (Err halt) k' new
+  unfolding as_end
   unopened halts.Memory k' new (not_dialed same is rose) = absurd cc
   unopened halts.Memory k' new (not_begun same is) = record { sent = []; got = []; known = same ∙ sym (got-nil (known_sent [] k) ∙ sent-nil k); came = tt }
   unopened halts.Memory k' new (dialed x) = record { sent = x.sent; got = x.got; known = x.known; came = tt }
   unopened (halts.End e) k' new (not_dialed same is rose) = record { sent = []; got = []; known = same ∙ sym (got-nil (known_sent [] k) ∙ sent-nil k); came = not_reached (end_is e is) refl refl rose }
-    where
-      end_is : (e : LinkEnd) → Err (halts.End e) ≡ Err (halts.End ends.DialFailed) → e ≡ ends.DialFailed
-      end_is e h = cc
   unopened (halts.End e) k' new (not_begun same is) = absurd cc
   unopened (halts.End e) k' new (dialed x) = record { sent = x.sent; got = x.got; known = x.known; came = not_opened x.came }
 

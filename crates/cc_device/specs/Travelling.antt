@@ -3,6 +3,10 @@ use Rattle.std.specs.Prelude.{◌≡◌, ◌≢◌, ◌⊎◌, ℕ, zero, suc, �
 use Rattle.std.specs.List.{flat_map}
 use Rattle.cc_meaning.specs.declared.file.Job.{Job}
 use Rattle.cc_meaning.specs.declared.frame.Frame.{Frame}
+use Rattle.cc_meaning.specs.declared.report.Limits.{Limits}
+use Rattle.cc_meaning.specs.declared.report.Report.{Report}
+use Rattle.cc_meaning.specs.declared.travel.Travel.{Travel}
+use Rattle.cc_meaning_run.specs.Local.{local}
 use Rattle.cc_meaning.specs.declared.image.RunImage.{RunImage}
 use Rattle.cc_meaning.specs.declared.image.BackImage.{BackImage}
 use Rattle.cc_meaning.specs.declared.program.Program.{Program}
@@ -14,10 +18,10 @@ use Rattle.cc_meaning_nodes.specs.Clone.{hello_kind, version, frame_bytes}
 use Rattle.cc_meaning_plain.specs.declared.plain.Plain.{Plain}
 use Rattle.cc_meaning_plain.specs.Laws.{AreBytes}
 use Rattle.cc_meaning_plain.specs.Plain.{IsPlain}
-use Rattle.cc_meaning_plain.specs.Program.{function_number, program_of}
+use Rattle.cc_meaning_plain.specs.Program.{function_number, program_of, setting_of}
 use Rattle.cc_meaning_clone.specs.Hello.{with_length}
-use Rattle.cc_meaning_device.specs.Received.{Received, is_ready}
-use Rattle.cc_meaning_device.specs.Straight.{Course, course_with_line, course_came, called, course_of}
+use Rattle.cc_meaning_device.specs.Received.{Received, is_ready, Offloaded, offloaded}
+use Rattle.cc_meaning_device.specs.Straight.{plain_device, Course, course_with_line, course_came, called, course_of}
 use Rattle.cc_machine.specs.declared.progress.Progress.{Progress}
 use Rattle.cc_machine.specs.declared.progress.Pause.{Pause}
 use Rattle.cc_machine.specs.declared.progress.Pause.TheVariants as pauses
@@ -156,3 +160,30 @@ TravelsSo p hello patience contact sent got images old new = by contact.end cont
     by None false = StaysHome sent got images
     by None true = TravelsOn hello sent got images
     by (Some e) is_open = (images ≢ []) × EndsTravel p hello patience sent got images e old new
+
+-- ---- what an offloaded run promises
+
+-- no moved method was entered, or every one was done by the clone, or the device fell back for this reason
+abbrev pub TravelsAs : Program → (hello : List ℕ) → (patience : ℕ) → Option LinkEnd → (sent got : List ℕ) → List RunImage → Counts → Counts → Type 0
+TravelsAs p hello patience None sent got images old new = StaysHome sent got images ⊎ TravelsOn hello sent got images
+TravelsAs p hello patience (Some e) sent got images old new = (images ≢ []) × EndsTravel p hello patience sent got images e old new
+
+-- the run over received frames
+abbrev pub offloaded_over : Plain → Option ℕ → Limits → List Frame → Offloaded
+offloaded_over plain moved limits frames = offloaded (plain_device plain (moves_of plain moved)) (setting_of plain) [] limits frames
+
+-- These bytes were sent and got, and the report and the travel are those of the run over the frames of what was got.
+pub record Offloads (plain : Plain) (moved : Option ℕ) (job : Job) (report : Report) (travel : Travel) (k : Known) (old : Counts) (k' : Known) (new : Counts) (untouched : Type 0) : Type 0 where
+  pub sent : List ℕ
+  pub got : List ℕ
+  pub known : k' ≡ known_got got (known_sent sent k)
+  pub reports : (offloaded_over plain moved job.limits (frames_of got).frames).report ≡ Some report
+  pub migrations : (offloaded_over plain moved job.limits (frames_of got).frames).received.merged ≡ travel.migrations
+  pub fallback : (offloaded_over plain moved job.limits (frames_of got).frames).received.fallen ≡ is_some travel.fallback
+  pub travels : TravelsAs (program_of plain) (hello_bytes job) job.patience travel.fallback sent got (offloaded_over plain moved job.limits (frames_of got).frames).received.images old new
+  -- where no moved method was entered, the link is as it was
+  pub home : (offloaded_over plain moved job.limits (frames_of got).frames).received.images ≡ [] → untouched
+
+-- the report is that of the run on one heap
+abbrev pub IsLocal : Plain → Limits → Report → Type 0
+IsLocal plain limits report = local (setting_of plain) [] limits ≡ Some report

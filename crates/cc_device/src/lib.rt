@@ -1,6 +1,7 @@
 //! The device: a run of a plain file whose moved function is done by a clone.
 #![tactic(auto)]
 
+mod capture;
 mod contact;
 mod exchange;
 mod hello;
