@@ -3,5 +3,8 @@
 
 mod capture;
 mod contact;
+mod device;
 mod exchange;
 mod hello;
+
+pub use device::offload;
