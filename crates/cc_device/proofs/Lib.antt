@@ -7,3 +7,4 @@ pub mod Pauses
 pub mod Taken
 pub mod Travels
 pub mod Stands
+pub mod Calls
