@@ -1,5 +1,5 @@
 -- What a call comes to, and how the device stands behind it.
-use Rattle.std.proofs.Common.{◌≡◌, ◌≢◌, ℕ, zero, suc, ◌+◌, ◌≤◌, ◌<◌, ◌^◌, ◌==◌, ◌&&◌, not, cond, Bool, true, false, ℤ, w32, List, [], ◌∷◌, ◌++◌, length, Option, Some, None, Result, Ok, Err, is_some, refl, sym, ap, ◌∙◌, subst, arith, slice_get, FitsSigned, inl, inr, ◌⊎◌}
+use Rattle.std.proofs.Common.{◌≡◌, ◌≢◌, ℕ, zero, suc, ◌+◌, ◌-◌, ◌≤◌, ◌<◌, ◌^◌, ◌==◌, ◌&&◌, not, cond, Bool, true, false, ℤ, w32, List, [], ◌∷◌, ◌++◌, length, Option, Some, None, Result, Ok, Err, is_some, refl, sym, ap, ◌∙◌, subst, arith, slice_get, FitsSigned, inl, inr, ◌⊎◌}
 use Rattle.std.proofs.lemmas.Bool.{and_parts, leb-true}
 use Rattle.cc_meaning.specs.declared.file.Job.{Job}
 use Rattle.cc_meaning.specs.declared.fault.ImageFault.{ImageFault}
@@ -22,13 +22,14 @@ use Rattle.cc_meaning_device.specs.Entries.{EntryIsRun, FunctionsAreFew}
 use Rattle.cc_machine.specs.declared.progress.Progress.{Progress}
 use Rattle.cc_machine.specs.declared.progress.Entry.{Entry}
 use Rattle.cc_machine.specs.declared.progress.Came.{Came}
+use Rattle.cc_machine.specs.declared.progress.Pause.{Pause}
 use Rattle.cc_machine.specs.declared.progress.Pause.TheVariants as pauses
 use Rattle.cc_machine.specs.Going.{is_stop, came_here}
 use Rattle.cc_link.specs.Links.{Known, Counts, NeverFall}
 use Rattle.cc_device.specs.declared.contact.Contact.{Contact}
 use Rattle.cc_device.specs.declared.exchange.Halt.TheVariants as halts
 use Rattle.cc_device.specs.Judging.{wrong_frame, judge_image, judge_back}
-use Rattle.cc_device.specs.Travelling.{IsOfFile, moves_of, stops_in, hello_bytes, Took, called_alone, opened_first, Reaches, paused_course, behind_call, received_of, GoesSo, Stood, CallsThere, gives_back, falls_back, CallDone}
+use Rattle.cc_device.specs.Travelling.{IsOfFile, moves_of, stops_in, hello_bytes, Took, called_alone, opened_first, Reaches, paused_course, behind_call, received_of, GoesSo, Stood, CallsThere, gives_back, falls_back, CallDone, IsLater}
 use Rattle.cc_device.proofs.Keeping.{here_keeps}
 use Rattle.cc_device.proofs.Pauses.{done_by}
 use Rattle.cc_device.proofs.Stands.{reaching, fallen_by, own_course, stood_by_back, stood_by_fall}
@@ -174,3 +175,30 @@ moved_by false moved f e = (e, refl)
 pub still_reaching : (end : Option LinkEnd) → is_some end ≡ false → end ≡ None
 still_reaching None e = refl
 still_reaching (Some end) e = absurd cc
+
+-- ---- from call to call
+
+-- how long a run may still go from entry to entry
+abbrev pub waiting : Pause → ℕ → ℕ
+waiting (pauses.AtEntry entry) left = suc left
+waiting (pauses.Done ends) left = 0
+
+pub stood_map : (plain : Plain) (moved : Option ℕ) (job : Job) (contact : Contact) (left left' : Received → Course) (k : Known) (c : Counts) (k' : Known) (c' : Counts) →
+    ((t : Received) → t.fallen ≡ is_some contact.end → left t ≡ left' t) → Stood plain moved job contact left k c k' c' → Stood plain moved job contact left' k c k' c'
+stood_map plain moved job contact left left' k c k' c' same s = record {
+  sent = s.sent;
+  got = s.got;
+  images = s.images;
+  known = s.known;
+  counts = s.counts;
+  travels = s.travels;
+  course = goes_map contact.end _ _ _ s.got (λ frames. same (received_of contact s.images frames) refl) s.course;
+}
+
+pub waits_less : (pause : Pause) (all before now : ℕ) → now ≤ all → IsLater pause before now → waiting pause (all - now) < suc (all - before)
+waits_less (pauses.AtEntry entry) all before now le l = omega (arith, le, l)
+waits_less (pauses.Done ends) all before now le l = omega arith
+
+pub later_than : (pause : Pause) (merged merged' before now : ℕ) → merged < before → merged' ≤ merged + 1 → IsLater pause before now → IsLater pause merged' now
+later_than (pauses.AtEntry entry) merged merged' before now a b l = omega (arith, a, b, l)
+later_than (pauses.Done ends) merged merged' before now a b l = tt

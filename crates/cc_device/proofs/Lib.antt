@@ -8,3 +8,4 @@ pub mod Taken
 pub mod Travels
 pub mod Stands
 pub mod Calls
+pub mod Offloaded

@@ -9,7 +9,7 @@ ghost use Rattle.cc_meaning_images.specs.Spelling.{spelled_run};
 ghost use Rattle.cc_meaning_plain.specs.Program.{program_of};
 ghost use Rattle.cc_meaning_device.specs.Received.{Received};
 ghost use Rattle.cc_machine.specs.Going.{is_stop};
-ghost use Rattle.cc_device.specs.Travelling.{IsOfFile, hello_payload, moves_of, course_from, paused_course, behind_call, stops_in, Keeps, CallsThere, CallDone, begun_course, Offloads, IsLocal};
+ghost use Rattle.cc_device.specs.Travelling.{IsOfFile, hello_payload, moves_of, course_from, paused_course, behind_call, stops_in, Keeps, CallsThere, CallDone, begun_course, IsLater, Stood, Offloads, IsLocal};
 
 use crate::capture::{came_of, entry_image};
 use crate::contact::{Contact, reach};
@@ -21,7 +21,10 @@ use cc_meaning::file::Job;
 use cc_meaning::image::RunImage;
 use cc_meaning::report::{Ending, Report};
 use cc_meaning::travel::Travel;
-use cc_meaning_device::{law_entry_is_run, law_entry_is_short, law_functions_are_few};
+use cc_meaning_device::{
+    law_clone_is_transparent, law_entry_is_run, law_entry_is_short, law_functions_are_few,
+    law_plain_offloads,
+};
 use cc_meaning_nodes::frame_laws;
 use cc_meaning_plain::Plain;
 use std::alloc::Global;
@@ -210,7 +213,7 @@ fn do_call<L: Link>(
     requires hello { length (hello_payload job.now) ≤ 67108864 }
     requires few { contact.old.merged < 2 ^ 64 - 1 }
     ensures done { IfOk result (λ came. CallDone plain.now moved job.now entry machine.now contact.old (L.known link.old) (L.counts link.old)
-        (L.known link.new) (L.counts link.new) (link.new ≡ link.old) came contact.new) }
+        (L.known link.new) (L.counts link.new) ((link.new ≡ link.old) × (contact.new ≡ contact.old)) came contact.new) }
     ensures counts { NeverFall (L.counts link.old) (L.counts link.new) }
     ensures honest { L.honest link.old ↔ L.honest link.new }
 {
@@ -229,4 +232,98 @@ fn do_call<L: Link>(
         machine.words(),
     )?;
     Ok(came)
+}
+
+/// Does the calls at which the run pauses, one after another, until it ends.
+fn drive<L: Link>(
+    alloc: Global,
+    link: &mut L,
+    plain: &Plain,
+    moved: Option<usize>,
+    job: &Job,
+    first: Pause,
+    machine: &mut Machine,
+    contact: &mut Contact,
+) -> Result<Ending, Memory>
+    requires of_file { IsOfFile plain.now }
+    requires moved { (i : ℕ) → moved ≡ Some i → i < length plain.now.functions }
+    requires instructions { machine.old.instructions ≤ 4294967296 }
+    requires words { machine.old.words ≤ 4194304 }
+    requires patient { 1 ≤ job.now.patience }
+    requires hello { length (hello_payload job.now) ≤ 67108864 }
+    requires within { machine.old.next ≤ length plain.now.main.insns }
+    requires later { IsLater first contact.old.merged machine.old.next }
+    ensures stands { IfOk result (λ ending. (k : Known) (c : Counts) →
+        Stood plain.now moved job.now contact.old (paused_course plain.now (moves_of plain.now moved) first machine.old) k c (L.known link.old) (L.counts link.old) →
+        Stood plain.now moved job.now contact.new (paused_course plain.now (moves_of plain.now moved) (Pause.Done ending) machine.new) k c (L.known link.new) (L.counts link.new)) }
+    ensures home { OnOk result (contact.new.is_open ≡ false → contact.new.end ≡ None → link.new ≡ link.old) }
+    ensures counts { NeverFall (L.counts link.old) (L.counts link.new) }
+    ensures honest { L.honest link.old ↔ L.honest link.new }
+{
+    let mut pause = first;
+    let _ = plain.main.insns.len();
+    'calling: loop {
+        match pause {
+            Pause::Done(ending) => return Ok(ending),
+            Pause::AtEntry(entry) => {
+                let came = do_call(alloc, link, plain, moved, job, entry, machine, contact)?;
+                pause = go_on(alloc, plain, moved, entry.to, came, machine, contact)?;
+            }
+        }
+    }
+}
+
+/// Runs a plain file without arguments within the limits of a job, and moves one of its functions, or none, to a clone at the job's place.
+///
+/// The link is dialed where the function is entered first; a Hello with the job's file, script and main class is sent, and a Ready awaited. Each entry sends
+/// the image of its state, and awaits that of the state at the function's end, which is merged. At the first fault of the link, and at a frame that isn't
+/// the one that is awaited, the device falls back: it does the function itself, nothing more is called on the link, and no later call migrates.
+pub fn offload<L: Link>(
+    alloc: Global,
+    plain: &Plain,
+    moved: Option<usize>,
+    job: &Job,
+    link: &mut L,
+) -> Result<(Report, Travel), Memory>
+    requires of_file { IsOfFile plain.now }
+    requires moved { (i : ℕ) → moved ≡ Some i → i < length plain.now.functions }
+    requires no_arguments { job.now.args ≡ [] }
+    requires instructions { job.now.limits.instructions ≤ 4294967296 }
+    requires words { job.now.limits.words ≤ 4194304 }
+    requires patient { 1 ≤ job.now.patience }
+    requires hello { length (hello_payload job.now) ≤ 67108864 }
+    // The report and the travel are those of the run over the frames of what was got, whatever came.
+    ensures offloads { IfOk result (λ done. Offloads plain.now moved job.now done.0 done.1
+        (L.known link.old) (L.counts link.old) (L.known link.new) (L.counts link.new) (link.new ≡ link.old)) }
+    // Over a fresh and honest link, to whose clone the same file was sent, the report is that of the run on one heap.
+    ensures transparent { IfOk result (λ done. L.honest link.old → L.known link.old ≡ told [] [] →
+        IsHelloOf (hello_payload job.now) plain.now → IsLocal plain.now job.now.limits done.0) }
+    ensures counts { NeverFall (L.counts link.old) (L.counts link.new) }
+    ensures honest { L.honest link.old ↔ L.honest link.new }
+{
+    law_plain_offloads();
+    law_clone_is_transparent();
+    let mut machine = Machine::start(alloc, plain, job.limits)?;
+    let mut contact = Contact {
+        is_open: false,
+        merged: 0,
+        end: None,
+    };
+    let first = begin(alloc, plain, moved, &mut machine, &contact)?;
+    let ending = drive(
+        alloc,
+        link,
+        plain,
+        moved,
+        job,
+        first,
+        &mut machine,
+        &mut contact,
+    )?;
+    let report = machine.report(alloc, job.limits, ending);
+    let travel = Travel {
+        migrations: contact.merged,
+        fallback: contact.end,
+    };
+    Ok((report, travel))
 }

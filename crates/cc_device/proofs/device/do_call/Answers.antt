@@ -22,4 +22,4 @@ returns-then-is_moved-clause-done g c =
 
 pub returns-clause-done : goal.returns-clause-done
 returns-clause-done g c =
-    own_done c.goes_on.ensures c.nothing_more.ensures c.begins_with_whole.ensures c.args.plain.now c.args.moved c.args.job.now c.args.entry c.args.machine.now c.args.contact.now _ _ _ c.in_ok-came.came refl (sym c.is_moved.ensures ∙ c.if-is_moved.false) (search rules)
+    own_done c.goes_on.ensures c.nothing_more.ensures c.begins_with_whole.ensures c.args.plain.now c.args.moved c.args.job.now c.args.entry c.args.machine.now c.args.contact.now _ _ _ c.in_ok-came.came (refl, refl) (sym c.is_moved.ensures ∙ c.if-is_moved.false) (search rules)
