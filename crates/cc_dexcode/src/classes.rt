@@ -3,6 +3,7 @@
 ghost use Rattle.std.specs.Prelude.{◌≡◌, ◌≢◌, ◌<◌, ◌^◌, length, List, Option, None, Err, IfOk, IfErr};
 ghost use Rattle.cc_meaning.specs.declared.file.RawClass.{RawClass};
 ghost use Rattle.cc_meaning_file.specs.Ids.{SpellsIds};
+ghost use Rattle.cc_meaning_classes.specs.Causes.{IsFirstCause};
 ghost use Rattle.cc_meaning_classes.specs.Classes.{or_fault, code_fault, methods_with_code, class_of, classes_from, SpellsClasses, classes_of};
 ghost use Rattle.cc_dexcode.specs.Finding.{Finds, Answers, Judges};
 
@@ -14,7 +15,7 @@ use crate::values::read_values;
 use cc_list::List;
 use cc_meaning::fault::DexFault;
 use cc_meaning::file::{ClassRow, Ids, RawClass, RawClasses, RawMethods};
-use cc_meaning_classes::{StatedMethod, classes_agree};
+use cc_meaning_classes::{StatedMethod, classes_agree, faults_caused};
 use std::alloc::Global;
 
 /// What was read of a part, or this fault where it is malformed.
@@ -123,8 +124,10 @@ pub fn read_classes(alloc: Global, file: &[u8], ids: &Ids) -> Result<RawClasses,
     requires { SpellsIds file.now ids.now }
     ensures spelled { IfOk result (λ classes. SpellsClasses file.now ids.now classes) }
     ensures fault { IfErr result (λ fault. fault ≢ DexFault.Memory → classes_of file.now ids.now ≡ Err fault) }
+    ensures caused { IfErr result (λ fault. fault ≢ DexFault.Memory → IsFirstCause file.now ids.now fault) }
     ensures refused { IfErr result (λ fault. fault ≢ DexFault.Memory → (classes : List RawClass) → ¬ SpellsClasses file.now ids.now classes) }
 {
     classes_agree();
+    faults_caused();
     read_each(alloc, file, ids, ids.classes.as_slice())
 }

@@ -27,11 +27,11 @@ bind_ok (Err fault) f y e = absurd (cc)
 pub ok_is : {A : Type 0} (x y : A) → let read : A → Result A DexFault = λ a. Ok a in read x ≡ read y → x ≡ y
 ok_is x y e = cc
 
-found_part : {A : Type 0} (read : Option A) (fault : DexFault) (x : A) → or_fault read fault ≡ Ok x → read ≡ Some x
+pub found_part : {A : Type 0} (read : Option A) (fault : DexFault) (x : A) → or_fault read fault ≡ Ok x → read ≡ Some x
 found_part (Some y) fault x e = ap Some (ok_is y x e)
 found_part None fault x e = absurd (cc)
 
-unless_ok : {A : Type 0} (found : Option DexFault) (rest : Result A DexFault) (x : A) → unless found rest ≡ Ok x → (found ≡ None) × (rest ≡ Ok x)
+pub unless_ok : {A : Type 0} (found : Option DexFault) (rest : Result A DexFault) (x : A) → unless found rest ≡ Ok x → (found ≡ None) × (rest ≡ Ok x)
 unless_ok None rest x e = (refl, e)
 unless_ok (Some fault) rest x e = absurd (cc)
 
@@ -45,7 +45,7 @@ first_sound file ids method rest none = cases (has_sound_code file ids method) r
     cases true t e = (t, e)
     cases false t e = absurd (cc)
 
-methods_spelled : UlebAgrees → SlebAgrees → (file : List ℕ) (ids : Ids) (stated : List StatedMethod) (methods : List RawMethod) → code_fault file ids stated ≡ None → methods_with_code file ids stated ≡ Ok methods →
+pub methods_spelled : UlebAgrees → SlebAgrees → (file : List ℕ) (ids : Ids) (stated : List StatedMethod) (methods : List RawMethod) → code_fault file ids stated ≡ None → methods_with_code file ids stated ≡ Ok methods →
     EachPair (SpellsSoundMethod file ids) stated methods
 unfolding methods_with_code
 methods_spelled uleb sleb file ids [] methods sound e = subst (λ (ms : List RawMethod). EachPair (SpellsSoundMethod file ids) [] ms) (ok_is [] methods e) tt
@@ -57,7 +57,7 @@ methods_spelled uleb sleb file ids (stated ∷ rest) methods sound e =
     subst (λ (ms : List RawMethod). EachPair (SpellsSoundMethod file ids) (stated ∷ rest) ms) (ok_is (method.0 ∷ others.0) methods others.2)
     (record { sound = sound_code file ids stated first.0; spelled = method_spelled uleb sleb file ids stated method.0 read }, methods_spelled uleb sleb file ids rest others.0 first.1 others.1)
 
-methods_sound : (file : List ℕ) (ids : Ids) (stated : List StatedMethod) (methods : List RawMethod) → EachPair (SpellsSoundMethod file ids) stated methods → code_fault file ids stated ≡ None
+pub methods_sound : (file : List ℕ) (ids : Ids) (stated : List StatedMethod) (methods : List RawMethod) → EachPair (SpellsSoundMethod file ids) stated methods → code_fault file ids stated ≡ None
 unfolding code_fault
 methods_sound file ids [] [] each = refl
 methods_sound file ids [] (method ∷ methods) each = absurd each
@@ -75,7 +75,7 @@ methods_read uleb sleb file ids (stated ∷ rest) (method ∷ methods) (first, o
 
 -- ---- classes
 
-class_spelled : UlebAgrees → SlebAgrees → (file : List ℕ) (ids : Ids) (number : ℕ) (stated : ClassRow) (class : RawClass) → class_of file ids number stated ≡ Ok class → SpellsClass file ids stated class
+pub class_spelled : UlebAgrees → SlebAgrees → (file : List ℕ) (ids : Ids) (number : ℕ) (stated : ClassRow) (class : RawClass) → class_of file ids number stated ≡ Ok class → SpellsClass file ids stated class
 unfolding class_of
 class_spelled uleb sleb file ids number stated class e =
     let made : List RawField → List RawMethod → List StaticValue → RawClass = λ fields methods values. record { fields = fields; methods = methods; values = values } in
@@ -99,7 +99,7 @@ same_class : (a b : RawClass) → a.fields ≡ b.fields → a.methods ≡ b.meth
 unfolding class_from
 same_class a b fields methods values = ap (λ x. class_from x a.methods a.values) fields ∙ ap (λ x. class_from b.fields x a.values) methods ∙ ap (class_from b.fields b.methods) values
 
-class_read : UlebAgrees → SlebAgrees → (file : List ℕ) (ids : Ids) (number : ℕ) (stated : ClassRow) (class : RawClass) → SpellsClass file ids stated class → class_of file ids number stated ≡ Ok class
+pub class_read : UlebAgrees → SlebAgrees → (file : List ℕ) (ids : Ids) (number : ℕ) (stated : ClassRow) (class : RawClass) → SpellsClass file ids stated class → class_of file ids number stated ≡ Ok class
 unfolding class_of
 class_read uleb sleb file ids number stated class s =
     let made : RawClass = record { fields = s.members.fields; methods = class.methods; values = class.values } in

@@ -5,3 +5,4 @@ pub mod TryLaws
 pub mod CodeLaws
 pub mod ValueLaws
 pub mod ClassLaws
+pub mod CauseLaws

@@ -5,4 +5,5 @@ pub mod CodeItems
 pub mod Tries
 pub mod Values
 pub mod Classes
+pub mod Causes
 pub mod Laws

@@ -1,3 +1,4 @@
+ghost use Rattle.cc_meaning_classes.specs.Causes.{FaultsCaused};
 ghost use Rattle.cc_meaning_classes.specs.Laws.{MembersAgree, HandlersRise, ClassesAgree, OneClasses};
 
 use cc_meaning_file::{sleb_agrees, uleb_agrees};
@@ -30,4 +31,12 @@ pub fn one_classes()
     ensures { OneClasses }
 {
     classes_agree();
+}
+
+/// Each fault of a file's classes has its cause: the first class that isn't spelled, and in it the first part that isn't.
+pub fn faults_caused()
+    ensures { FaultsCaused }
+{
+    uleb_agrees();
+    sleb_agrees();
 }

@@ -5,4 +5,4 @@ mod items;
 mod laws;
 
 pub use items::{Cursor, Handler, Members, StatedMethod, ValueKind};
-pub use laws::{classes_agree, handlers_rise, members_agree, one_classes};
+pub use laws::{classes_agree, faults_caused, handlers_rise, members_agree, one_classes};
