@@ -1,6 +1,6 @@
 //! The Hello of a job.
 
-ghost use Rattle.std.specs.Prelude.{◌≡◌, ◌++◌, ◌≤◌, ◌<◌, ◌^◌, length, IfOk, OnOk};
+ghost use Rattle.std.specs.Prelude.{◌≡◌, ◌↔◌, ◌++◌, ◌≤◌, ◌<◌, ◌^◌, length, IsTrue, IfOk, OnOk};
 ghost use Rattle.cc_meaning_clone.specs.Hello.{with_length};
 ghost use Rattle.cc_device.specs.Travelling.{main_of, hello_payload, hello_bytes};
 
@@ -24,6 +24,21 @@ fn main_name(main: &Option<Text>) -> &[u8]
         Some(name) => name.as_bytes(),
         None => b"",
     }
+}
+
+/// The longest payload of a frame, in bytes.
+const LONGEST_PAYLOAD: usize = 67_108_864;
+
+/// Whether the Hello of a job fits a frame, whose payload has at most 67,108,864 bytes. Takes no memory.
+#[tactic(auto, unfolding(crate::specs::Travelling::hello_payload))]
+pub fn hello_fits(job: &Job) -> bool
+    ensures { IsTrue result ↔ (length (hello_payload job.now) ≤ 67108864) }
+{
+    let texts = main_name(&job.main)
+        .len()
+        .saturating_add(job.file.len())
+        .saturating_add(job.script.len());
+    texts <= LONGEST_PAYLOAD - 13
 }
 
 /// Adds a text with its length in four bytes before it.

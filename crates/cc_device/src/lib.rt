@@ -8,3 +8,4 @@ mod exchange;
 mod hello;
 
 pub use device::offload;
+pub use hello::hello_fits;
