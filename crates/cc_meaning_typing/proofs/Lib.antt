@@ -1,0 +1,4 @@
+pub mod Tree
+pub mod Below
+pub mod Least
+pub mod Lattice
