@@ -1,12 +1,13 @@
 -- A type is below another exactly where it rises to it.
-use Rattle.std.proofs.Common.{◌≡◌, ◌⊎◌, inl, inr, ℕ, zero, suc, Bool, true, false, ◌==◌, Option, Some, None, refl, sym, ap, ◌∙◌, subst}
+use Rattle.std.proofs.Common.{◌≡◌, ◌≢◌, ◌⊎◌, ◌≤◌, length, cond, arith, inl, inr, ℕ, zero, suc, Bool, true, false, ◌==◌, Option, Some, None, refl, sym, ap, ◌∙◌, subst}
 use Rattle.cc_meaning.specs.declared.program.Base.{Base}
 use Rattle.cc_meaning.specs.declared.program.Base.TheVariants as base
 use Rattle.cc_meaning.specs.declared.program.DexType.{DexType}
 use Rattle.cc_meaning.specs.declared.program.Program.{Program}
-use Rattle.cc_meaning_typing.specs.Hierarchy.{superclass_of, object_class, IsHierarchy, Inherits, itself, further}
-use Rattle.cc_meaning_typing.specs.Types.{typed, class_type, object_type, array_of, is_class, is_reference_in, is_reference, IsBelow, same, object, classes, elements, class_above, fewer, above_objects, next_in, next_above}
-use Rattle.cc_meaning_typing.proofs.Tree.{test_eq, Rises, here, on, above_some, above_none, next_none, to_object}
+use Rattle.cc_meaning_typing.specs.Hierarchy.{on_value, superclass_of, object_class, climb, IsHierarchy, Inherits, itself, further}
+use Rattle.cc_meaning_typing.specs.Types.{is_loose, first_held, typed, class_type, object_type, array_of, is_class, is_reference_in, is_reference, IsBelow, same, object, classes, elements, class_above, fewer, above_objects, next_in, next_above}
+use Rattle.cc_meaning_typing.specs.Heights.{depth}
+use Rattle.cc_meaning_typing.proofs.Tree.{test_eq, Rises, here, on, above_some, above_none, next_none, to_object, first_object, depth_above, no_above_object, rises_to_object}
 
 module _ (program : Program) (hierarchy : IsHierarchy program) where
   abbrev o : ℕ
@@ -18,19 +19,44 @@ module _ (program : Program) (hierarchy : IsHierarchy program) where
 
   -- ---- what is below rises
 
-  pub no_above_object : (class above : ℕ) → superclass_of program class ≡ Some above → class ≡ o → ⊥
-  no_above_object class above e c = let t = hierarchy.top in let f : superclass_of program class ≡ None = rw c t in cc
-
-  next_class : (class above : ℕ) → superclass_of program class ≡ Some above → next_above program (class_type class) ≡ Some (class_type above)
+  next_class : (class : ℕ) → class ≢ o → next_above program (class_type class) ≡ Some (class_type (class_above program class))
   unfolding next_above next_in
-  next_class class above e = elim (test_eq class o) [
-    | inl t ↦ absurd (no_above_object class above e t.1)
-    | inr t ↦ rw (t.0, above_some program hierarchy class above e) refl
+  next_class class ne = elim (test_eq class o) [
+    | inl t ↦ absurd (ne t.1)
+    | inr t ↦ rw t.0 refl
   ]
 
-  classes_rise : {class above : ℕ} → Inherits program class above → Rises program (class_type class) (class_type above)
-  classes_rise itself = here
-  classes_rise (further {class = c} {above = s} e h) = on (next_class c s e) (classes_rise h)
+  from_object : {class above : ℕ} → Inherits program class above → class ≡ o → above ≡ o
+  from_object itself e = e
+  from_object (further {class = c} {above = s} f h) e = absurd (no_above_object program hierarchy c s f e)
+
+  -- what a class inherits from and registers hold, the first that they hold from that class up inherits from
+  held_by : (t : Bool) (class above ancestor : ℕ) → is_loose program class ≡ t → Inherits program class ancestor → Inherits program above ancestor → Inherits program (cond t above class) ancestor
+  held_by true class above ancestor e h g = g
+  held_by false class above ancestor e h g = h
+
+  held_inherits : (n m class ancestor : ℕ) → climb program n class ≡ o → n ≤ m → Inherits program class ancestor → is_loose program ancestor ≡ false → Inherits program (first_held program m class) ancestor
+  unfolding first_held on_value climb
+  held_inherits zero m class ancestor e l h held = subst (λ z. Inherits program (first_held program m z) ancestor) (sym e) (subst (λ z. Inherits program z ancestor) (sym (first_object program hierarchy m)) (subst (λ z. Inherits program o z) (sym (from_object h e)) itself))
+  held_inherits (suc n) zero class ancestor e l h held = absurd (omega arith)
+  held_inherits (suc n) (suc m) class ancestor e l itself held = rw held itself
+  held_inherits (suc n) (suc m) class ancestor e l (further {above = s} f h) held =
+      rw f (held_by (is_loose program class) class (first_held program m s) ancestor refl (further f h) (held_inherits n m s ancestor (rw f at e) (omega arith) h held))
+
+  above_inherits_by : (n class above ancestor : ℕ) → superclass_of program class ≡ Some above → climb program n class ≡ o → n ≤ length program.classes → Inherits program above ancestor → is_loose program ancestor ≡ false → Inherits program (class_above program class) ancestor
+  unfolding climb on_value
+  above_inherits_by zero class above ancestor e c l h held = absurd (no_above_object program hierarchy class above e c)
+  above_inherits_by (suc n) class above ancestor e c l h held = subst (λ z. Inherits program z ancestor) (sym (above_some program hierarchy class above e)) (held_inherits n (length program.classes) above ancestor (rw e at c) (omega arith) h held)
+
+  above_inherits : (class above ancestor : ℕ) → superclass_of program class ≡ Some above → Inherits program above ancestor → is_loose program ancestor ≡ false → Inherits program (class_above program class) ancestor
+  above_inherits class above ancestor e h held = above_inherits_by (length program.classes) class above ancestor e (rises_to_object program hierarchy class above e) (omega arith) h held
+
+  classes_rise : (n : ℕ) {class above : ℕ} → depth program class ≤ n → Inherits program class above → is_loose program above ≡ false → Rises program (class_type class) (class_type above)
+  classes_rise n l itself held = here
+  classes_rise zero l (further {class = c} {above = s} e h) held = let d = depth_above program hierarchy c (no_above_object program hierarchy c s e) in absurd (omega arith)
+  classes_rise (suc n) l (further {class = c} {above = s} e h) held =
+      let d = depth_above program hierarchy c (no_above_object program hierarchy c s e) in
+      on (next_class c (no_above_object program hierarchy c s e)) (classes_rise n (omega arith) (above_inherits c s _ e h held) held)
 
   abbrev Lifts : ℕ → Base → DexType → Type 0
   Lifts dims b s = (next_in program (suc dims) b ≡ Some (array_of s)) × (is_reference s ≡ true)
@@ -92,7 +118,7 @@ module _ (program : Program) (hierarchy : IsHierarchy program) where
   pub rises_of : {a b : DexType} → IsBelow program a b → Rises program a b
   rises_of same = here
   rises_of (object {type = a} e) = subst (λ z. Rises program a z) (sym e) (to_object program hierarchy a)
-  rises_of (classes h) = classes_rise h
+  rises_of (classes {class = c} h held) = classes_rise (depth program c) (omega arith) h held
   rises_of (elements r1 r2 h) = arrays_rise r1 (rises_of h)
 
   -- ---- what rises is below
@@ -150,13 +176,44 @@ module _ (program : Program) (hierarchy : IsHierarchy program) where
   unfolding next_above
   lowered t u e = lowered_in t.dims t.base u e
 
-  -- a type whose next one is a class's is that of a class with this superclass, or the next one is Object
-  abbrev Under : DexType → ℕ → Type 0
-  Under t class = (class ≡ o) ⊎ ((c : ℕ) × (t ≡ class_type c) × (superclass_of program c ≡ Some class))
+  inherits_trans : {a b c : ℕ} → Inherits program a b → Inherits program b c → Inherits program a c
+  inherits_trans itself h = h
+  inherits_trans (further e g) h = further e (inherits_trans g h)
 
-  under_stated : (class above : ℕ) (s : Option ℕ) → superclass_of program class ≡ s → class_above program class ≡ above → Under (class_type class) above
-  under_stated class above None e f = inl (sym f ∙ above_none program hierarchy class e)
-  under_stated class above (Some x) e f = inr (class, refl, e ∙ ap Some (sym (above_some program hierarchy class x e) ∙ f))
+  -- what is next above a class is Object, or one of its superclasses, which registers hold
+  abbrev Ancestor : ℕ → ℕ → Type 0
+  Ancestor class above = (above ≡ o) ⊎ (Inherits program class above × (is_loose program above ≡ false))
+
+  ancestor_by : (t : Bool) (class above : ℕ) → is_loose program class ≡ t → Ancestor class above → Ancestor class (cond t above class)
+  ancestor_by true class above e h = h
+  ancestor_by false class above e h = inr (itself, e)
+
+  ancestor_of : (m class : ℕ) (s : Option ℕ) → superclass_of program class ≡ s → ((above : ℕ) → superclass_of program class ≡ Some above → Ancestor above (first_held program m above)) → Ancestor class (first_held program (suc m) class)
+  unfolding first_held on_value
+  ancestor_of m class None e ih = rw e (ancestor_by (is_loose program class) class o refl (inl refl))
+  ancestor_of m class (Some above) e ih = rw e (ancestor_by (is_loose program class) class (first_held program m above) refl (elim (ih above e) [ inl f ↦ inl f | inr h ↦ inr (further e h.0, h.1) ]))
+
+  held_ancestor : (m class : ℕ) → Ancestor class (first_held program m class)
+  unfolding first_held
+  held_ancestor zero class = inl refl
+  held_ancestor (suc m) class = ancestor_of m class (superclass_of program class) refl (λ above e. held_ancestor m above)
+
+  next_ancestor_by : (class : ℕ) (s : Option ℕ) → superclass_of program class ≡ s → Ancestor class (class_above program class)
+  next_ancestor_by class None e = inl (above_none program hierarchy class e)
+  next_ancestor_by class (Some above) e = subst (Ancestor class) (sym (above_some program hierarchy class above e)) (elim (held_ancestor (length program.classes) above) [ inl f ↦ inl f | inr h ↦ inr (further e h.0, h.1) ])
+
+  next_ancestor : (class : ℕ) → Ancestor class (class_above program class)
+  next_ancestor class = next_ancestor_by class (superclass_of program class) refl
+
+  -- a type whose next one is a class's is that of a class below it, or the next one is Object
+  abbrev Under : DexType → ℕ → Type 0
+  Under t class = (class ≡ o) ⊎ ((c : ℕ) × (t ≡ class_type c) × Inherits program c class)
+
+  under_stated : (class above : ℕ) → class_above program class ≡ above → Under (class_type class) above
+  under_stated class above f = elim (next_ancestor class) [
+    | inl e ↦ inl (sym f ∙ e)
+    | inr h ↦ inr (class, refl, subst (λ z. Inherits program class z) f h.0)
+  ]
 
   under_object : (dims above : ℕ) → typed dims (base.Class o) ≡ class_type above → above ≡ o
   under_object dims above f = let b : base.Class o ≡ base.Class above = ap (λ (z : DexType). z.base) f in cc
@@ -165,7 +222,7 @@ module _ (program : Program) (hierarchy : IsHierarchy program) where
   unfolding next_in above_objects
   under_class zero class above e = elim (test_eq class o) [
     | inl t ↦ let e2 = rw t.0 at e in cc
-    | inr t ↦ let e2 = rw t.0 at e in let f : typed zero (base.Class (class_above program class)) ≡ class_type above = cc in let b : base.Class (class_above program class) ≡ base.Class above = ap (λ (z : DexType). z.base) f in let g : class_above program class ≡ above = cc in under_stated class above (superclass_of program class) refl g
+    | inr t ↦ let e2 = rw t.0 at e in let f : typed zero (base.Class (class_above program class)) ≡ class_type above = cc in let b : base.Class (class_above program class) ≡ base.Class above = ap (λ (z : DexType). z.base) f in let g : class_above program class ≡ above = cc in under_stated class above g
   ]
   under_class (suc dims) class above e = elim (test_eq class o) [
     | inl t ↦ let e2 = rw t.0 at e in inl (under_object dims above (cc))
@@ -186,20 +243,17 @@ module _ (program : Program) (hierarchy : IsHierarchy program) where
   unfolding next_above
   under t above e = under_in t.dims t.base above e
 
-  from_object : {class above : ℕ} → Inherits program class above → class ≡ o → above ≡ o
-  from_object itself e = e
-  from_object (further {class = c} {above = s} f h) e = absurd (no_above_object c s f e)
-
-  -- the next type is itself below: an array of what the elements' type is next below, a class, or Object
-  next_zero_class : (class : ℕ) (s : Option ℕ) → superclass_of program class ≡ s → IsBelow program (class_type class) (class_type (class_above program class))
-  next_zero_class class None e = object (ap class_type (above_none program hierarchy class e))
-  next_zero_class class (Some above) e = rw (above_some program hierarchy class above e) (classes (further e itself))
+  next_zero_class : (class : ℕ) → IsBelow program (class_type class) (class_type (class_above program class))
+  next_zero_class class = elim (next_ancestor class) [
+    | inl e ↦ object (ap class_type e)
+    | inr h ↦ classes h.0 h.1
+  ]
 
   next_zero : (b : Base) (s : DexType) → next_in program zero b ≡ Some s → IsBelow program (typed zero b) s
   unfolding next_in above_objects fewer
   next_zero (base.Class class) s e = elim (test_eq class o) [
     | inl t ↦ let e2 = rw t.0 at e in cc
-    | inr t ↦ let e2 = rw t.0 at e in let f : class_type (class_above program class) ≡ s = cc in rw (← f) (next_zero_class class (superclass_of program class) refl)
+    | inr t ↦ let e2 = rw t.0 at e in let f : class_type (class_above program class) ≡ s = cc in rw (← f) (next_zero_class class)
   ]
   next_zero base.Boolean s e = object (cc)
   next_zero base.Byte s e = object (cc)
@@ -250,9 +304,9 @@ module _ (program : Program) (hierarchy : IsHierarchy program) where
   step : {s u : DexType} → IsBelow program s u → (t : DexType) → next_above program t ≡ Some s → IsBelow program t u
   step (same {type = s}) t e = next_below t s e
   step (object f) t e = object f
-  step (classes {class = c} {above = d} h) t e = elim (under t c e) [
+  step (classes {class = c} {above = d} h held) t e = elim (under t c e) [
     | inl f ↦ object (ap class_type (from_object h f))
-    | inr x ↦ rw x.1 (classes (further x.2 h))
+    | inr x ↦ rw x.1 (classes (inherits_trans x.2 h) held)
   ]
   step (elements {type = v} r1 r2 h) t e = let x = lowered t v e in rw x.1 (elements x.3 r2 (step h x.0 x.2))
 

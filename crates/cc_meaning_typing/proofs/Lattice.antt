@@ -1,16 +1,15 @@
 -- The laws of types and of registers.
-use Rattle.std.proofs.Common.{◌≡◌, inl, inr, ℕ, suc, cond, ◌==◌, Some, refl, sym, ap, subst}
+use Rattle.std.proofs.Common.{◌≡◌, inl, inr, ℕ, cond, ◌==◌, refl, sym, ap, subst}
 use Rattle.cc_meaning.specs.declared.program.DexType.{DexType}
 use Rattle.cc_meaning.specs.declared.program.Program.{Program}
 use Rattle.cc_meaning.specs.declared.program.RegType.{RegType}
 use Rattle.cc_meaning.specs.declared.program.RegType.TheVariants.{Unset, Int, Zero, LongLow, LongHigh, Reference, Fresh}
-use Rattle.cc_meaning_typing.specs.Hierarchy.{superclass_of, IsHierarchy}
+use Rattle.cc_meaning_typing.specs.Hierarchy.{IsHierarchy}
 use Rattle.cc_meaning_typing.specs.Types.{IsBelow, same as itself}
-use Rattle.cc_meaning_typing.specs.Heights.{depth}
 use Rattle.cc_meaning_typing.specs.Registers.{Covers, unset, same, zero_int, zero_reference, references, join}
 use Rattle.cc_meaning_typing.specs.Laws.{IsBelowByStep, TypesAreATree, TypeTrees, BelowOrders, LeastIsLeast, CoveringOrders, JoinIsLeast, TypesAreOrdered, LeastTypes, RegistersAreOrdered, Joins}
-use Rattle.cc_meaning_typing.proofs.Tree.{test_eq, on, above_some, depth_above, next_rank, next_none, object_rank, rises_rank, rises_trans, rises_anti, ups, rises_chain}
-use Rattle.cc_meaning_typing.proofs.Below.{no_above_object, rises_of, below_of}
+use Rattle.cc_meaning_typing.proofs.Tree.{test_eq, on, class_height, next_rank, next_none, object_rank, rises_rank, rises_trans, rises_anti, ups, rises_chain}
+use Rattle.cc_meaning_typing.proofs.Below.{rises_of, below_of}
 use Rattle.cc_meaning_typing.proofs.Least.{rank_bound, least}
 
 module _ (program : Program) (hierarchy : IsHierarchy program) where
@@ -22,11 +21,6 @@ module _ (program : Program) (hierarchy : IsHierarchy program) where
 
   below_orders : BelowOrders program
   below_orders = record { reflexive = λ a. itself; transitive = λ a b c. below_trans; antisymmetric = λ a b. below_anti }
-
-  class_depth : (class above : ℕ) → superclass_of program class ≡ Some above → depth program class ≡ suc (depth program above)
-  class_depth class above e =
-      let d = depth_above program hierarchy class (no_above_object program hierarchy class above e) in
-      rw (above_some program hierarchy class above e) at d
 
   by_step : (a b : DexType) → IsBelow program a b → IsBelowByStep program a b
   by_step a b h = elim (ups program hierarchy (rises_of program hierarchy h)) [
@@ -40,7 +34,7 @@ module _ (program : Program) (hierarchy : IsHierarchy program) where
 
   a_tree : TypesAreATree program
   a_tree = record {
-    class_depth = class_depth;
+    class_height = class_height program hierarchy;
     next_rank = next_rank program hierarchy;
     top = next_none program hierarchy;
     object_rank = object_rank program hierarchy;

@@ -2,3 +2,5 @@ pub mod Tree
 pub mod Below
 pub mod Least
 pub mod Lattice
+pub mod Registers
+pub mod Monotone

@@ -1,5 +1,5 @@
 -- The types of a hierarchy are a tree: each but Object has one next above it, one step nearer to Object.
-use Rattle.std.proofs.Common.{◌≡◌, ◌≢◌, ◌⊎◌, inl, inr, ℕ, zero, suc, ◌+◌, ◌<◌, ◌≤◌, true, false, ◌==◌, [], length, Option, Some, None, refl, sym, ap, ◌∙◌, subst, arith}
+use Rattle.std.proofs.Common.{◌≡◌, ◌≢◌, ◌⊎◌, inl, inr, ℕ, zero, suc, ◌+◌, ◌<◌, ◌≤◌, Bool, true, false, cond, ◌==◌, [], length, Option, Some, None, refl, sym, ap, ◌∙◌, subst, arith}
 use Rattle.std.proofs.lemmas.Bool.Decides.{nat_tests}
 use Rattle.std.proofs.lemmas.List.Quantifiers.{position-Some}
 use Rattle.std.proofs.lemmas.Option.{slice_get_past}
@@ -10,8 +10,8 @@ use Rattle.cc_meaning.specs.declared.program.ClassKind.TheVariants as origin
 use Rattle.cc_meaning.specs.declared.program.DexType.{DexType}
 use Rattle.cc_meaning.specs.declared.program.Program.{Program}
 use Rattle.cc_meaning_typing.specs.Hierarchy.{on_value, superclass_in, superclass_of, object_class, climb, IsHierarchy}
-use Rattle.cc_meaning_typing.specs.Types.{typed, object_type, class_above, fewer, above_objects, next_in, next_above}
-use Rattle.cc_meaning_typing.specs.Heights.{depth_in, depth, rank_in, rank}
+use Rattle.cc_meaning_typing.specs.Types.{is_loose, first_held, typed, object_type, class_above, fewer, above_objects, next_in, next_above}
+use Rattle.cc_meaning_typing.specs.Heights.{height_in, height, depth_in, depth, rank_in, rank}
 
 pub test_eq : (a b : ℕ) → (((a == b) ≡ true) × (a ≡ b)) ⊎ (((a == b) ≡ false) × (a ≢ b))
 test_eq a b = grind (arith, nat_tests)
@@ -38,26 +38,53 @@ module _ (program : Program) (hierarchy : IsHierarchy program) where
   abbrev Within : ℕ → ℕ → Type 0
   Within n class = (k : ℕ) × (k ≤ n) × Height program k class
 
-  pub above_some : (class above : ℕ) → superclass_of program class ≡ Some above → class_above program class ≡ above
-  unfolding class_above
+  cond_same : (t : Bool) (n : ℕ) → cond t n n ≡ n
+  cond_same true n = refl
+  cond_same false n = refl
+
+  pub first_object : (m : ℕ) → first_held program m o ≡ o
+  unfolding first_held on_value
+  first_object zero = refl
+  first_object (suc m) = rw hierarchy.top (cond_same (is_loose program o) o)
+
+  pub above_some : (class above : ℕ) → superclass_of program class ≡ Some above → class_above program class ≡ first_held program N above
+  unfolding class_above on_value
   above_some class above e = rw e refl
 
   pub above_none : (class : ℕ) → superclass_of program class ≡ None → class_above program class ≡ o
-  unfolding class_above
+  unfolding class_above on_value
   above_none class e = rw e refl
 
-  climbs_step : (n class : ℕ) (s : Option ℕ) → class ≢ o → superclass_of program class ≡ s → on_value s class (λ above. climb program n above) ≡ o → ((above : ℕ) → climb program n above ≡ o → Within n above) → Within (suc n) class
+  -- a class is near to Object, and so is what registers hold in its place
+  abbrev Both : ℕ → ℕ → Type 0
+  Both n class = Within n class × ((m : ℕ) → Within n (first_held program m class))
+
+  both_object : (n class : ℕ) → class ≡ o → Both n class
+  both_object n class e = ((0, omega arith, at_object e), λ m. (0, omega arith, at_object (ap (first_held program m) e ∙ first_object m)))
+
+  held_by : (n class : ℕ) (t : Bool) (above : ℕ) → Within (suc n) class → Within n above → Within (suc n) (cond t above class)
+  held_by n class true above x y = (y.0, omega arith, y.2)
+  held_by n class false above x y = x
+
+  held_within : (n class above m : ℕ) → superclass_of program class ≡ Some above → Within (suc n) class → ((m : ℕ) → Within n (first_held program m above)) → Within (suc n) (first_held program m class)
+  unfolding first_held on_value
+  held_within n class above zero e x y = (0, omega arith, at_object refl)
+  held_within n class above (suc m) e x y = rw e (held_by n class (is_loose program class) (first_held program m above) x (y m))
+
+  climbs_step : (n class : ℕ) (s : Option ℕ) → class ≢ o → superclass_of program class ≡ s → on_value s class (λ above. climb program n above) ≡ o → ((above : ℕ) → climb program n above ≡ o → Both n above) → Both (suc n) class
   unfolding on_value
   climbs_step n class None ne e h ih = absurd (ne h)
   climbs_step n class (Some above) ne e h ih =
       let x = ih above h in
-      (suc x.0, omega arith, under ne (rw (above_some class above e) x.2))
+      let y = x.1 N in
+      let z : Within (suc n) class = (suc y.0, omega arith, under ne (rw (above_some class above e) y.2)) in
+      (z, λ m. held_within n class above m e z x.1)
 
-  climbs : (n class : ℕ) → climb program n class ≡ o → Within n class
+  climbs : (n class : ℕ) → climb program n class ≡ o → Both n class
   unfolding climb
-  climbs zero class e = (0, omega arith, at_object e)
+  climbs zero class e = both_object zero class e
   climbs (suc n) class e = elim (test_eq class o) [
-    | inl t ↦ (0, omega arith, at_object t.1)
+    | inl t ↦ both_object (suc n) class t.1
     | inr t ↦ climbs_step n class (superclass_of program class) t.1 refl e (climbs n)
   ]
 
@@ -68,9 +95,9 @@ module _ (program : Program) (hierarchy : IsHierarchy program) where
   unfolding superclass_of superclass_in
   outside class h = rw (slice_get_past program.classes class h) refl
 
-  height_in : (class : ℕ) → ((class < N) ⊎ (N ≤ class)) → Within N class
-  height_in class (inl l) = climbs N class (hierarchy.leads class l)
-  height_in class (inr l) = elim (test_eq class o) [
+  near_in : (class : ℕ) → ((class < N) ⊎ (N ≤ class)) → Within N class
+  near_in class (inl l) = (climbs N class (hierarchy.leads class l)).0
+  near_in class (inr l) = elim (test_eq class o) [
     | inl t ↦ (0, omega arith, at_object t.1)
     | inr t ↦ let k = object_inside in (1, omega arith, under t.1 (at_object (above_none class (outside class l))))
   ]
@@ -78,8 +105,8 @@ module _ (program : Program) (hierarchy : IsHierarchy program) where
   side : (a b : ℕ) → (a < b) ⊎ (b ≤ a)
   side a b = grind arith
 
-  height : (class : ℕ) → Within N class
-  height class = height_in class (side class N)
+  near : (class : ℕ) → Within N class
+  near class = near_in class (side class N)
 
   depth_is : (n : ℕ) {k class : ℕ} → Height program k class → k ≤ n → depth_in program n class ≡ k
   unfolding depth_in
@@ -100,7 +127,7 @@ module _ (program : Program) (hierarchy : IsHierarchy program) where
 
   pub depth_bound : (class : ℕ) → depth program class ≤ N
   unfolding depth
-  depth_bound class = let x = height class in let e = depth_is N x.2 x.1 in omega arith
+  depth_bound class = let x = near class in let e = depth_is N x.2 x.1 in omega arith
 
   depth_of : {k : ℕ} (class : ℕ) → class ≢ o → k ≤ N → Height program k class → depth program class ≡ suc (depth program (class_above program class))
   unfolding depth
@@ -108,7 +135,43 @@ module _ (program : Program) (hierarchy : IsHierarchy program) where
   depth_of class ne l (under {n = n} not h) = depth_is N (under not h) l ∙ ap suc (sym (depth_is N h (omega arith)))
 
   pub depth_above : (class : ℕ) → class ≢ o → depth program class ≡ suc (depth program (class_above program class))
-  depth_above class ne = let x = height class in depth_of class ne x.1 x.2
+  depth_above class ne = let x = near class in depth_of class ne x.1 x.2
+
+  pub no_above_object : (class above : ℕ) → superclass_of program class ≡ Some above → class ≡ o → ⊥
+  no_above_object class above e c = let t = hierarchy.top in let f : superclass_of program class ≡ None = rw c t in cc
+
+  has_above : (class above : ℕ) → superclass_of program class ≡ Some above → ((class < N) ⊎ (N ≤ class)) → class < N
+  has_above class above e (inl l) = l
+  has_above class above e (inr l) = let f = outside class l in absurd (cc)
+
+  -- a class with a superclass is one of the program's, so that the way up from it ends at Object
+  pub rises_to_object : (class above : ℕ) → superclass_of program class ≡ Some above → climb program N class ≡ o
+  rises_to_object class above e = hierarchy.leads class (has_above class above e (side class N))
+
+  height_none : (m class : ℕ) → superclass_of program class ≡ None → height_in program m class ≡ 0
+  unfolding height_in on_value
+  height_none zero class e = refl
+  height_none (suc m) class e = rw e refl
+
+  height_stable_by : (n m class : ℕ) (s : Option ℕ) → superclass_of program class ≡ s → on_value s class (λ above. climb program n above) ≡ o → ((above : ℕ) → climb program n above ≡ o → height_in program m above ≡ height_in program n above) → height_in program (suc m) class ≡ height_in program (suc n) class
+  unfolding height_in on_value
+  height_stable_by n m class None e h ih = rw e refl
+  height_stable_by n m class (Some above) e h ih = rw e (ap suc (ih above h))
+
+  height_stable : (n m class : ℕ) → climb program n class ≡ o → n ≤ m → height_in program m class ≡ height_in program n class
+  unfolding climb
+  height_stable zero m class e l = height_none m class (ap (superclass_of program) e ∙ hierarchy.top) ∙ sym (height_none zero class (ap (superclass_of program) e ∙ hierarchy.top))
+  height_stable (suc n) zero class e l = absurd (omega arith)
+  height_stable (suc n) (suc m) class e l = height_stable_by n m class (superclass_of program class) refl e (λ above h. height_stable n m above h (omega arith))
+
+  height_step : (n class above : ℕ) → superclass_of program class ≡ Some above → climb program n class ≡ o → height_in program n class ≡ suc (height_in program n above)
+  unfolding climb height_in on_value
+  height_step zero class above e h = absurd (no_above_object class above e h)
+  height_step (suc n) class above e h = rw e (ap suc (sym (height_stable n (suc n) above (rw e at h) (omega arith))))
+
+  pub class_height : (class above : ℕ) → superclass_of program class ≡ Some above → height program class ≡ suc (height program above)
+  unfolding height
+  class_height class above e = height_step N class above e (rises_to_object class above e)
 
   -- ---- types
 

@@ -4,14 +4,22 @@ use Rattle.cc_meaning.specs.declared.program.Base.{Base}
 use Rattle.cc_meaning.specs.declared.program.Base.TheVariants as base
 use Rattle.cc_meaning.specs.declared.program.DexType.{DexType}
 use Rattle.cc_meaning.specs.declared.program.Program.{Program}
-use Rattle.cc_meaning_typing.specs.Hierarchy.{object_class}
+use Rattle.cc_meaning_typing.specs.Hierarchy.{on_value, superclass_of, object_class}
 use Rattle.cc_meaning_typing.specs.Types.{class_above}
+
+unfoldable pub height_in : Program → ℕ → ℕ → ℕ
+height_in program zero class = 0
+height_in program (suc n) class = on_value (superclass_of program class) 0 (λ above. suc (height_in program n above))
+
+-- how many superclasses a class has
+unfoldable pub height : Program → ℕ → ℕ
+height program class = height_in program (length program.classes) class
 
 unfoldable pub depth_in : Program → ℕ → ℕ → ℕ
 depth_in program zero class = 0
 depth_in program (suc n) class = cond (class == object_class program) 0 (suc (depth_in program n (class_above program class)))
 
--- how many steps a class is below Object
+-- how many of a class's superclasses registers hold
 unfoldable pub depth : Program → ℕ → ℕ
 depth program class = depth_in program (length program.classes) class
 

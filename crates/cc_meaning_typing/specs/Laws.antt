@@ -1,12 +1,18 @@
 -- The laws of types, registers, states and rules.
 use Rattle.std.specs.Prelude.{◌≡◌, ◌↔◌, ◌⊎◌, ℕ, suc, ◌+◌, ◌<◌, ◌≤◌, length, Some, None}
+use Rattle.cc_meaning.specs.declared.instruction.Insn.{Insn}
+use Rattle.cc_meaning.specs.declared.program.Catch.{Catch}
 use Rattle.cc_meaning.specs.declared.program.DexType.{DexType}
 use Rattle.cc_meaning.specs.declared.program.Program.{Program}
 use Rattle.cc_meaning.specs.declared.program.RegType.{RegType}
+use Rattle.cc_meaning_typing.specs.declared.state.State.{State}
 use Rattle.cc_meaning_typing.specs.Hierarchy.{superclass_of, IsHierarchy}
 use Rattle.cc_meaning_typing.specs.Types.{object_type, IsBelow, next_above, least_above}
-use Rattle.cc_meaning_typing.specs.Heights.{depth, rank}
+use Rattle.cc_meaning_typing.specs.Heights.{height, rank}
 use Rattle.cc_meaning_typing.specs.Registers.{Covers, join}
+use Rattle.cc_meaning_typing.specs.States.{StateCovers}
+use Rattle.cc_meaning_typing.specs.Code.{Body}
+use Rattle.cc_meaning_typing.specs.Rules.{Accepts, after, handler_state}
 
 -- a type is another, or the next one above it is below the other
 abbrev pub IsBelowByStep : Program → DexType → DexType → Type 0
@@ -14,7 +20,7 @@ IsBelowByStep program a b = (a ≡ b) ⊎ ((next : DexType) × (next_above progr
 
 -- Each type but Object has one type next above it, one step nearer to Object; the types above a type are those on the way, a chain.
 pub record TypesAreATree (program : Program) : Type 0 where
-  pub class_depth : (class above : ℕ) → superclass_of program class ≡ Some above → depth program class ≡ suc (depth program above)
+  pub class_height : (class above : ℕ) → superclass_of program class ≡ Some above → height program class ≡ suc (height program above)
   pub next_rank : (a next : DexType) → next_above program a ≡ Some next → rank program a ≡ suc (rank program next)
   pub top : (a : DexType) → next_above program a ≡ None → a ≡ object_type program
   pub object_rank : rank program (object_type program) ≡ 0
@@ -64,3 +70,22 @@ RegistersAreOrdered = (program : Program) → IsHierarchy program → CoveringOr
 
 abbrev pub Joins : Type 0
 Joins = (program : Program) → IsHierarchy program → JoinIsLeast program
+
+-- covering is a partial order on states
+pub record StatesOrder (program : Program) : Type 0 where
+  pub reflexive : (s : State) → StateCovers program s s
+  pub transitive : (s t u : State) → StateCovers program s t → StateCovers program t u → StateCovers program s u
+  pub antisymmetric : (s t : State) → StateCovers program s t → StateCovers program t s → s ≡ t
+
+-- What a rule accepts it accepts of each state that this one covers, and what it gives, to successors and to handlers, then covers likewise. Where control
+-- goes doesn't depend on the state.
+pub record RulesAreMonotone (body : Body) : Type 0 where
+  pub accepts : (at : ℕ) (insn : Insn) (u s : State) → StateCovers body.program u s → Accepts body at u insn → Accepts body at s insn
+  pub gives : (at : ℕ) (insn : Insn) (u s : State) → StateCovers body.program u s → Accepts body at u insn → StateCovers body.program (after body.program at u insn) (after body.program at s insn)
+  pub handled : (catch : Catch) (u s : State) → StateCovers body.program u s → StateCovers body.program (handler_state body.program u catch) (handler_state body.program s catch)
+
+abbrev pub StatesAreOrdered : Type 0
+StatesAreOrdered = (program : Program) → IsHierarchy program → StatesOrder program
+
+abbrev pub MonotoneRules : Type 0
+MonotoneRules = (body : Body) → IsHierarchy body.program → RulesAreMonotone body

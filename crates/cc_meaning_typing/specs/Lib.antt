@@ -2,4 +2,9 @@ pub mod Hierarchy
 pub mod Types
 pub mod Heights
 pub mod Registers
+pub mod States
+pub mod Code
+pub mod Rules
+pub mod Typing
+pub mod WellTyped
 pub mod Laws

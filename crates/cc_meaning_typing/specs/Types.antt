@@ -1,5 +1,5 @@
 -- How types are held in registers, which of them is below another, and the least that two are below.
-use Rattle.std.specs.Prelude.{◌≡◌, ℕ, zero, suc, ◌+◌, Bool, true, false, cond, ◌==◌, ◌&&◌, length, Option, Some, None, slice_get, unwrap_or}
+use Rattle.std.specs.Prelude.{◌≡◌, ℕ, zero, suc, ◌+◌, Bool, true, false, cond, ◌==◌, ◌&&◌, length, Option, Some, None, slice_get}
 use Rattle.cc_meaning.specs.declared.program.Base.{Base}
 use Rattle.cc_meaning.specs.declared.program.Base.TheVariants as base
 use Rattle.cc_meaning.specs.declared.program.Class.{Class}
@@ -64,19 +64,24 @@ held program type = typed type.dims (held_base program type.base)
 
 -- ---- below
 
--- A type is below itself and Object, a class below its superclasses, and an array of references below another where its elements' type is below the
--- other's.
+-- A type is below itself and Object, a class below those of its superclasses that registers hold, and an array of references below another where its
+-- elements' type is below the other's.
 pub data IsBelow (program : Program) : DexType → DexType → Type 0 where
   same : {type : DexType} → IsBelow program type type
   object : {type above : DexType} → above ≡ object_type program → IsBelow program type above
-  classes : {class above : ℕ} → Inherits program class above → IsBelow program (class_type class) (class_type above)
+  classes : {class above : ℕ} → Inherits program class above → is_loose program above ≡ false → IsBelow program (class_type class) (class_type above)
   elements : {type above : DexType} → is_reference type ≡ true → is_reference above ≡ true → IsBelow program type above → IsBelow program (array_of type) (array_of above)
 
 -- ---- the least type above two
 
--- the superclass, and Object where none is stated
+-- the first from a class up, within so many steps, that registers hold, else Object
+unfoldable pub first_held : Program → ℕ → ℕ → ℕ
+first_held program zero class = object_class program
+first_held program (suc n) class = cond (is_loose program class) (on_value (superclass_of program class) (object_class program) (λ above. first_held program n above)) class
+
+-- the first of the superclasses that registers hold, else Object
 unfoldable pub class_above : Program → ℕ → ℕ
-class_above program class = unwrap_or (superclass_of program class) (object_class program)
+class_above program class = on_value (superclass_of program class) (object_class program) (λ above. first_held program (length program.classes) above)
 
 unfoldable pub fewer : ℕ → ℕ
 fewer zero = zero
@@ -90,7 +95,7 @@ unfoldable pub next_in : Program → ℕ → Base → Option DexType
 next_in program dims (base.Class class) = cond (class == object_class program) (above_objects program dims) (Some (typed dims (base.Class (class_above program class))))
 next_in program dims _ = Some (typed (fewer dims) (base.Class (object_class program)))
 
--- The type next above a type, which Object alone hasn't got. That of `[Lc;` is the array of c's superclass, that of `[Object` is Object, and that of `[[I` is
+-- The type next above a type, which Object alone hasn't got. That of `[Lc;` is the array of what is next above c, that of `[Object` is Object, and that of `[[I` is
 -- `[Object`.
 unfoldable pub next_above : Program → DexType → Option DexType
 next_above program type = next_in program type.dims type.base

@@ -1,7 +1,11 @@
 //! Register types, the typing rules, and what it is for a program to be well typed: definitions and laws.
 #![tactic(auto)]
 
-ghost use Rattle.cc_meaning_typing.specs.Laws.{TypeTrees, TypesAreOrdered, LeastTypes, RegistersAreOrdered, Joins};
+ghost use Rattle.cc_meaning_typing.specs.Laws.{TypeTrees, TypesAreOrdered, LeastTypes, RegistersAreOrdered, Joins, StatesAreOrdered, MonotoneRules};
+
+mod state;
+
+pub use state::{Pending, State};
 
 /// In a hierarchy, the types are a tree with Object at its root.
 pub fn law_tree()
@@ -30,4 +34,16 @@ pub fn law_covering()
 #[tactic(auto, using(crate::proofs::Lattice::joins))]
 pub fn law_join()
     ensures { Joins }
+{}
+
+/// In a hierarchy, covering is a partial order on states.
+#[tactic(auto, using(crate::proofs::Registers::states_are_ordered))]
+pub fn law_states()
+    ensures { StatesAreOrdered }
+{}
+
+/// In a hierarchy, what a rule accepts it accepts of each state that this one covers, and what it gives then covers likewise.
+#[tactic(auto, using(crate::proofs::Monotone::monotone_rules))]
+pub fn law_rules()
+    ensures { MonotoneRules }
 {}

@@ -1,9 +1,10 @@
 -- Walks up the tree of types.
-use Rattle.std.proofs.Common.{◌≡◌, ◌⊎◌, inl, inr, ℕ, zero, suc, ◌+◌, ◌<◌, ◌≤◌, Option, Some, None, refl, sym, ap, ◌∙◌, subst, arith}
+use Rattle.std.proofs.Common.{length, true, false, ◌≡◌, ◌⊎◌, inl, inr, ℕ, zero, suc, ◌+◌, ◌<◌, ◌≤◌, Option, Some, None, refl, sym, ap, ◌∙◌, subst, arith}
+use Rattle.std.proofs.lemmas.Option.{slice_get_past}
 use Rattle.cc_meaning.specs.declared.program.DexType.{DexType}
 use Rattle.cc_meaning.specs.declared.program.Program.{Program}
-use Rattle.cc_meaning_typing.specs.Hierarchy.{on_value, superclass_of, object_class, climb, IsHierarchy}
-use Rattle.cc_meaning_typing.specs.Types.{IsBelow, same, next_above, least_above}
+use Rattle.cc_meaning_typing.specs.Hierarchy.{superclass_in, on_value, superclass_of, object_class, climb, IsHierarchy}
+use Rattle.cc_meaning_typing.specs.Types.{is_loose, first_held, class_above, IsBelow, same, next_above, least_above}
 use Rattle.cc_meaning_typing.specs.Heights.{rank}
 use Rattle.cc_meaning_typing.specs.Laws.{TypesAreATree, BelowOrders, LeastIsLeast}
 
@@ -21,6 +22,58 @@ pub climb_end : (program : Program) (n class : ℕ) → superclass_of program cl
 unfolding climb on_value
 climb_end program zero class e h = h
 climb_end program (suc n) class e h = rw e at h
+
+-- what is kept while the first superclass that registers hold is looked for
+pub record Seeks (program : Program) (class above : ℕ) : Type 0 where
+  pub n : ℕ
+  pub rest : on_value (superclass_of program above) (object_class program) (λ next. first_held program n next) ≡ class_above program class
+  pub near : (next : ℕ) → superclass_of program above ≡ Some next → (k : ℕ) × (k ≤ n) × (climb program k above ≡ object_class program)
+
+has_above : (program : Program) (class above : ℕ) → superclass_of program class ≡ Some above → ((class < length program.classes) ⊎ (length program.classes ≤ class)) → class < length program.classes
+unfolding superclass_of superclass_in
+has_above program class above e (inl l) = l
+has_above program class above e (inr l) = let f = slice_get_past program.classes class l in let g = rw f at e in cc
+
+side : (a b : ℕ) → (a < b) ⊎ (b ≤ a)
+side a b = grind arith
+
+pub seeks_start : (program : Program) → IsHierarchy program → (class : ℕ) → Seeks program class class
+unfolding class_above
+seeks_start program hierarchy class = record {
+  n = length program.classes;
+  rest = refl;
+  near = λ next e. (length program.classes, omega arith, hierarchy.leads class (has_above program class next e (side class (length program.classes))));
+}
+
+-- what stands behind the next superclass
+abbrev Behind : Program → ℕ → ℕ → Type 0
+Behind program class next = (m : ℕ) × (first_held program (suc m) next ≡ class_above program class) × ((k : ℕ) × (k ≤ m) × (climb program k next ≡ object_class program))
+
+behind : (program : Program) → IsHierarchy program → (class above next n k : ℕ) → superclass_of program above ≡ Some next → first_held program n next ≡ class_above program class → k ≤ n → climb program k above ≡ object_class program → Behind program class next
+unfolding climb on_value
+behind program hierarchy class above next n zero e f l c = let t = hierarchy.top in let g : superclass_of program above ≡ None = rw c t in absurd (cc)
+behind program hierarchy class above next zero (suc k) e f l c = absurd (omega arith)
+behind program hierarchy class above next (suc n) (suc k) e f l c = (n, f, (k, omega arith, rw e at c))
+
+seeks_behind : (program : Program) → IsHierarchy program → (class above next : ℕ) → Seeks program class above → superclass_of program above ≡ Some next → Behind program class next
+unfolding on_value
+seeks_behind program hierarchy class above next s e = let x = s.near next e in behind program hierarchy class above next s.n x.0 e (rw e at s.rest) x.1 x.2
+
+pub seeks_step : (program : Program) → IsHierarchy program → (class above next : ℕ) → Seeks program class above → superclass_of program above ≡ Some next → is_loose program next ≡ true → Seeks program class next
+unfolding first_held
+seeks_step program hierarchy class above next s e loose =
+    let x = seeks_behind program hierarchy class above next s e in
+    record { n = x.0; rest = rw loose at x.1; near = λ _ _. x.2 }
+
+pub seeks_found : (program : Program) → IsHierarchy program → (class above next : ℕ) → Seeks program class above → superclass_of program above ≡ Some next → is_loose program next ≡ false → next ≡ class_above program class
+unfolding first_held
+seeks_found program hierarchy class above next s e loose =
+    let x = seeks_behind program hierarchy class above next s e in
+    rw loose at x.1
+
+pub seeks_end : (program : Program) (class above : ℕ) → Seeks program class above → superclass_of program above ≡ None → object_class program ≡ class_above program class
+unfolding on_value
+seeks_end program class above s e = rw e at s.rest
 
 -- what is kept while a type is lifted
 pub record Lifted (program : Program) (low ahead lifted left : DexType) : Type 0 where

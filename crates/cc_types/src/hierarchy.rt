@@ -2,11 +2,11 @@
 
 ghost use Rattle.std.specs.Prelude.{◌≡◌, ◌+◌, ◌≤◌, ◌⊎◌, ◌↔◌, IsTrue, Some, None};
 ghost use Rattle.cc_meaning_typing.specs.Hierarchy.{IsHierarchy, superclass_of, object_class};
-ghost use Rattle.cc_meaning_typing.specs.Types.{IsBelow, class_above, next_above, least_above};
+ghost use Rattle.cc_meaning_typing.specs.Types.{is_loose, IsBelow, class_above, next_above, least_above};
 ghost use Rattle.cc_meaning_typing.specs.Heights.{rank};
 
 use cc_meaning::lists::ClassIx;
-use cc_meaning::program::{Base, DexType, Program};
+use cc_meaning::program::{Base, ClassKind, DexType, Program};
 use cc_meaning_typing::{law_least_type, law_tree, law_types};
 
 /// The superclass of a class, as the program states it.
@@ -17,6 +17,23 @@ fn superclass(program: &Program, class: ClassIx) -> Option<ClassIx>
     match program.classes.get(class as usize) {
         Some(class) => class.superclass,
         None => None,
+    }
+}
+
+/// Whether the class is outside or an interface of the file, which every reference fits.
+#[tactic(auto, unfolding(cc_meaning_typing::specs::Types::is_loose, cc_meaning_typing::specs::Types::is_loose_in, cc_meaning_typing::specs::Types::is_loose_kind))]
+pub fn is_loose(class: ClassIx, program: &Program) -> bool
+    ensures { result ≡ is_loose program.now class }
+{
+    match program.classes.get(class as usize) {
+        None => false,
+        Some(class) => match class.kind {
+            ClassKind::File => class.is_interface,
+            ClassKind::BuiltIn => false,
+            ClassKind::Outside => true,
+            ClassKind::OutsideError => true,
+            ClassKind::Array => false,
+        },
     }
 }
 
@@ -33,21 +50,28 @@ pub fn object_class(program: &Program) -> ClassIx
     class
 }
 
-#[tactic(auto, unfolding(cc_meaning_typing::specs::Types::class_above))]
+/// The first of a class's superclasses that registers hold, else Object.
 fn class_above(program: &Program, object: ClassIx, class: ClassIx) -> ClassIx
-    requires { object ≡ object_class program.now }
+    requires hierarchy { IsHierarchy program.now }
+    requires object { object ≡ object_class program.now }
     ensures { result ≡ class_above program.now class }
 {
-    match superclass(program, class) {
-        Some(above) => above,
-        None => object,
+    law_tree();
+    let mut above = class;
+    while let Some(next) = superclass(program, above) {
+        if !is_loose(next, program) {
+            return next;
+        }
+        above = next;
     }
+    object
 }
 
 /// The type next above a type, `None` for Object.
 #[tactic(auto, unfolding(cc_meaning_typing::specs::Types::next_above, cc_meaning_typing::specs::Types::next_in, cc_meaning_typing::specs::Types::above_objects, cc_meaning_typing::specs::Types::fewer))]
 fn next_above(program: &Program, object: ClassIx, of: DexType) -> Option<DexType>
-    requires { object ≡ object_class program.now }
+    requires hierarchy { IsHierarchy program.now }
+    requires object { object ≡ object_class program.now }
     ensures { result ≡ next_above program.now of }
 {
     let fewer = if of.dims == 0 { 0 } else { of.dims - 1 };
@@ -75,6 +99,7 @@ fn next_above(program: &Program, object: ClassIx, of: DexType) -> Option<DexType
 
 /// The type next above a type that isn't Object.
 fn above(program: &Program, object: ClassIx, of: DexType) -> DexType
+    requires hierarchy { IsHierarchy program.now }
     requires object { object ≡ object_class program.now }
     requires below { next_above program.now of ≡ None → ⊥ }
     ensures { next_above program.now of ≡ Some result }

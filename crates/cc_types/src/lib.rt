@@ -3,5 +3,7 @@
 
 mod hierarchy;
 mod registers;
+mod verified;
 
 pub use registers::{covers, fits, held, join, register_of};
+pub use verified::Verified;

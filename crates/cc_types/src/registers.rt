@@ -2,12 +2,11 @@
 
 ghost use Rattle.std.specs.Prelude.{◌≡◌, ◌↔◌, IsTrue};
 ghost use Rattle.cc_meaning_typing.specs.Hierarchy.{IsHierarchy, object_class};
-ghost use Rattle.cc_meaning_typing.specs.Types.{held, is_loose};
+ghost use Rattle.cc_meaning_typing.specs.Types.{held};
 ghost use Rattle.cc_meaning_typing.specs.Registers.{Covers, Fits, join, register_of};
 
-use crate::hierarchy::{least_above, object_class, same_type};
-use cc_meaning::lists::ClassIx;
-use cc_meaning::program::{Base, ClassKind, DexType, Program, RegType};
+use crate::hierarchy::{is_loose, least_above, object_class, same_type};
+use cc_meaning::program::{Base, DexType, Program, RegType};
 use cc_meaning_typing::law_join;
 
 /// The least that covers two: either of two equal ones, an int for the literal 0 and an int, the reference for the literal 0 and a reference, for two
@@ -61,22 +60,6 @@ pub fn covers(wide: RegType, narrow: RegType, program: &Program) -> bool
 {
     law_join();
     same_register(join(wide, narrow, program), wide)
-}
-
-#[tactic(auto, unfolding(cc_meaning_typing::specs::Types::is_loose, cc_meaning_typing::specs::Types::is_loose_in, cc_meaning_typing::specs::Types::is_loose_kind))]
-fn is_loose(class: ClassIx, program: &Program) -> bool
-    ensures { result ≡ is_loose program.now class }
-{
-    match program.classes.get(class as usize) {
-        None => false,
-        Some(class) => match class.kind {
-            ClassKind::File => class.is_interface,
-            ClassKind::BuiltIn => false,
-            ClassKind::Outside => true,
-            ClassKind::OutsideError => true,
-            ClassKind::Array => false,
-        },
-    }
 }
 
 /// The type that a register holds for a declared one: Object for an outside class and an interface of the file, which every reference fits, and so in arrays;
