@@ -4,3 +4,4 @@ pub mod Least
 pub mod Lattice
 pub mod Registers
 pub mod Monotone
+pub mod Growth

@@ -115,7 +115,7 @@ module _ (program : Program) where
     pending_anti (exceptions h) same_pending = refl
     pending_anti (exceptions h) (exceptions g) = ap Exception (below_anti program hierarchy g h)
 
-    state_parts : (s t : State) → s.registers ≡ t.registers → s.pending ≡ t.pending → s ≡ t
+    pub state_parts : (s t : State) → s.registers ≡ t.registers → s.pending ≡ t.pending → s ≡ t
     state_parts s t e f = ap (λ (z : List RegType). let w : State = record { registers = z; pending = s.pending } in w) e ∙ ap (λ (z : Pending). let w : State = record { registers = t.registers; pending = z } in w) f
 
     pub states_order : StatesOrder program

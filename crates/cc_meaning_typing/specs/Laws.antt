@@ -11,6 +11,7 @@ use Rattle.cc_meaning_typing.specs.Types.{object_type, IsBelow, next_above, leas
 use Rattle.cc_meaning_typing.specs.Heights.{height, rank}
 use Rattle.cc_meaning_typing.specs.Registers.{Covers, join}
 use Rattle.cc_meaning_typing.specs.States.{StateCovers}
+use Rattle.cc_meaning_typing.specs.Growth.{GrowthEnds}
 use Rattle.cc_meaning_typing.specs.Code.{Body}
 use Rattle.cc_meaning_typing.specs.Rules.{Accepts, after, handler_state}
 
@@ -89,3 +90,6 @@ StatesAreOrdered = (program : Program) → IsHierarchy program → StatesOrder p
 
 abbrev pub MonotoneRules : Type 0
 MonotoneRules = (body : Body) → IsHierarchy body.program → RulesAreMonotone body
+
+abbrev pub BoundedGrowth : Type 0
+BoundedGrowth = (program : Program) → IsHierarchy program → GrowthEnds program

@@ -7,4 +7,5 @@ pub mod Code
 pub mod Rules
 pub mod Typing
 pub mod WellTyped
+pub mod Growth
 pub mod Laws

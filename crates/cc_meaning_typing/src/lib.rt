@@ -1,7 +1,7 @@
 //! Register types, the typing rules, and what it is for a program to be well typed: definitions and laws.
 #![tactic(auto)]
 
-ghost use Rattle.cc_meaning_typing.specs.Laws.{TypeTrees, TypesAreOrdered, LeastTypes, RegistersAreOrdered, Joins, StatesAreOrdered, MonotoneRules};
+ghost use Rattle.cc_meaning_typing.specs.Laws.{TypeTrees, TypesAreOrdered, LeastTypes, RegistersAreOrdered, Joins, StatesAreOrdered, MonotoneRules, BoundedGrowth};
 
 mod state;
 
@@ -46,4 +46,10 @@ pub fn law_states()
 #[tactic(auto, using(crate::proofs::Monotone::monotone_rules))]
 pub fn law_rules()
     ensures { MonotoneRules }
+{}
+
+/// In a hierarchy, a state that covers another is that one or has less room to grow, so that states that grow come to an end.
+#[tactic(auto, using(crate::proofs::Growth::bounded_growth))]
+pub fn law_growth()
+    ensures { BoundedGrowth }
 {}
