@@ -1,7 +1,6 @@
 -- States that grow come to an end.
-use Rattle.std.proofs.Common.{◌≡◌, ◌⊎◌, inl, inr, ℕ, zero, suc, ◌+◌, ◌*◌, ◌<◌, ◌≤◌, List, [], ◌∷◌, length, refl, sym, ap, ◌∙◌, subst, arith}
+use Rattle.std.proofs.Common.{◌≡◌, ◌⊎◌, inl, inr, suc, ◌*◌, ◌<◌, ◌≤◌, List, [], ◌∷◌, length, refl, sym, ap, arith}
 use Rattle.std.proofs.Math.Nat.{suc-mul}
-use Rattle.cc_meaning.specs.declared.program.DexType.{DexType}
 use Rattle.cc_meaning.specs.declared.program.Program.{Program}
 use Rattle.cc_meaning.specs.declared.program.RegType.{RegType}
 use Rattle.cc_meaning.specs.declared.program.RegType.TheVariants.{Unset, Int, Zero, LongLow, LongHigh, Reference, Fresh}
@@ -9,7 +8,6 @@ use Rattle.cc_meaning_typing.specs.declared.state.Pending.{Pending}
 use Rattle.cc_meaning_typing.specs.declared.state.Pending.TheVariants.{Nothing, Result, Exception}
 use Rattle.cc_meaning_typing.specs.declared.state.State.{State}
 use Rattle.cc_meaning_typing.specs.Hierarchy.{IsHierarchy}
-use Rattle.cc_meaning_typing.specs.Heights.{rank}
 use Rattle.cc_meaning_typing.specs.Registers.{Covers, unset, same, zero_int, zero_reference, references}
 use Rattle.cc_meaning_typing.specs.States.{PendingCovers, nothing, same_pending, exceptions, AllCover, none, each, StateCovers}
 use Rattle.cc_meaning_typing.specs.Growth.{most_room, room_of, registers_room, pending_room, state_room, IsNarrowRegister, AreNarrow, IsNarrowPending, IsNarrow, Grows, ends, grows, GrowthEnds}

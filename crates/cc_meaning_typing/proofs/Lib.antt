@@ -5,3 +5,4 @@ pub mod Lattice
 pub mod Registers
 pub mod Monotone
 pub mod Growth
+pub mod Worked

@@ -67,7 +67,7 @@ module _ (program : Program) where
     pub below : IsBelow program w v
     pub alike : kind_of w ≡ kind_of v
 
-  array_parts : (a b : DexType) → array_of a ≡ array_of b → a ≡ b
+  pub array_parts : (a b : DexType) → array_of a ≡ array_of b → a ≡ b
   array_parts a b e =
       let d : suc a.dims ≡ suc b.dims = ap (λ (z : DexType). z.dims) e in
       let c : a.base ≡ b.base = ap (λ (z : DexType). z.base) e in

@@ -1,9 +1,8 @@
 -- How often what is known at an address can grow.
 use Rattle.std.specs.Prelude.{◌≡◌, ◌⊎◌, ℕ, suc, ◌+◌, ◌*◌, ◌<◌, ◌≤◌, List, [], ◌∷◌, length}
-use Rattle.cc_meaning.specs.declared.program.DexType.{DexType}
 use Rattle.cc_meaning.specs.declared.program.Program.{Program}
 use Rattle.cc_meaning.specs.declared.program.RegType.{RegType}
-use Rattle.cc_meaning.specs.declared.program.RegType.TheVariants.{Unset, Int, Zero, LongLow, LongHigh, Reference, Fresh}
+use Rattle.cc_meaning.specs.declared.program.RegType.TheVariants.{Unset, Zero, Reference}
 use Rattle.cc_meaning_typing.specs.declared.state.Pending.{Pending}
 use Rattle.cc_meaning_typing.specs.declared.state.Pending.TheVariants.{Nothing, Result, Exception}
 use Rattle.cc_meaning_typing.specs.declared.state.State.{State}

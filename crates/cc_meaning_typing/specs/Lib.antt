@@ -9,3 +9,4 @@ pub mod Typing
 pub mod WellTyped
 pub mod Growth
 pub mod Laws
+pub mod Worked

@@ -2,6 +2,7 @@
 #![tactic(auto)]
 
 ghost use Rattle.cc_meaning_typing.specs.Laws.{TypeTrees, TypesAreOrdered, LeastTypes, RegistersAreOrdered, Joins, StatesAreOrdered, MonotoneRules, BoundedGrowth};
+ghost use Rattle.cc_meaning_typing.specs.Worked.{TypesHold, JoinsHold, MovesHold, ResultsHold, ReturnsHold, ConstantsHold, ObjectsHold, ArraysHold, FieldsHold, CallsHold, OperationsHold, BranchesHold, StatesHold};
 
 mod state;
 
@@ -52,4 +53,22 @@ pub fn law_rules()
 #[tactic(auto, using(crate::proofs::Growth::bounded_growth))]
 pub fn law_growth()
     ensures { BoundedGrowth }
+{}
+
+/// The definitions at worked examples: one for each row of the table of rules, and what each row refuses.
+#[tactic(auto, using(crate::proofs::Worked::types_hold, crate::proofs::Worked::joins_hold, crate::proofs::Worked::moves_hold, crate::proofs::Worked::results_hold, crate::proofs::Worked::returns_hold, crate::proofs::Worked::constants_hold, crate::proofs::Worked::objects_hold, crate::proofs::Worked::arrays_hold, crate::proofs::Worked::fields_hold, crate::proofs::Worked::calls_hold, crate::proofs::Worked::operations_hold, crate::proofs::Worked::branches_hold, crate::proofs::Worked::states_hold))]
+pub fn worked_rules()
+    ensures types { TypesHold }
+    ensures joins { JoinsHold }
+    ensures moves { MovesHold }
+    ensures results { ResultsHold }
+    ensures returns { ReturnsHold }
+    ensures constants { ConstantsHold }
+    ensures objects { ObjectsHold }
+    ensures arrays { ArraysHold }
+    ensures fields { FieldsHold }
+    ensures calls { CallsHold }
+    ensures operations { OperationsHold }
+    ensures branches { BranchesHold }
+    ensures states { StatesHold }
 {}
