@@ -6,3 +6,4 @@ pub mod Registers
 pub mod Monotone
 pub mod Growth
 pub mod Worked
+pub mod StateJoin

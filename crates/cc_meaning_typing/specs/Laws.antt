@@ -10,7 +10,7 @@ use Rattle.cc_meaning_typing.specs.Hierarchy.{superclass_of, IsHierarchy}
 use Rattle.cc_meaning_typing.specs.Types.{object_type, IsBelow, next_above, least_above}
 use Rattle.cc_meaning_typing.specs.Heights.{height, rank}
 use Rattle.cc_meaning_typing.specs.Registers.{Covers, join}
-use Rattle.cc_meaning_typing.specs.States.{StateCovers}
+use Rattle.cc_meaning_typing.specs.States.{StateCovers, join_states}
 use Rattle.cc_meaning_typing.specs.Growth.{GrowthEnds}
 use Rattle.cc_meaning_typing.specs.Code.{Body}
 use Rattle.cc_meaning_typing.specs.Rules.{Accepts, after, handler_state}
@@ -78,6 +78,13 @@ pub record StatesOrder (program : Program) : Type 0 where
   pub transitive : (s t u : State) → StateCovers program s t → StateCovers program t u → StateCovers program s u
   pub antisymmetric : (s t : State) → StateCovers program s t → StateCovers program t s → s ≡ t
 
+-- Of states with as many registers there is a least one that covers two, and one covers another exactly where it is their join.
+pub record StateJoinIsLeast (program : Program) : Type 0 where
+  pub left : (u s : State) → length u.registers ≡ length s.registers → StateCovers program (join_states program u s) u
+  pub right : (u s : State) → length u.registers ≡ length s.registers → StateCovers program (join_states program u s) s
+  pub least : (u s t : State) → StateCovers program t u → StateCovers program t s → StateCovers program t (join_states program u s)
+  pub covering : (u s : State) → length u.registers ≡ length s.registers → StateCovers program u s ↔ (join_states program u s ≡ u)
+
 -- What a rule accepts it accepts of each state that this one covers, and what it gives, to successors and to handlers, then covers likewise. Where control
 -- goes doesn't depend on the state.
 pub record RulesAreMonotone (body : Body) : Type 0 where
@@ -87,6 +94,9 @@ pub record RulesAreMonotone (body : Body) : Type 0 where
 
 abbrev pub StatesAreOrdered : Type 0
 StatesAreOrdered = (program : Program) → IsHierarchy program → StatesOrder program
+
+abbrev pub StateJoins : Type 0
+StateJoins = (program : Program) → IsHierarchy program → StateJoinIsLeast program
 
 abbrev pub MonotoneRules : Type 0
 MonotoneRules = (body : Body) → IsHierarchy body.program → RulesAreMonotone body

@@ -10,10 +10,10 @@ use Rattle.cc_meaning.specs.declared.program.RegType.{RegType}
 use Rattle.cc_meaning.specs.declared.program.RegType.TheVariants.{Unset, LongLow, LongHigh, Reference, Fresh}
 use Rattle.cc_meaning.specs.Kinds.{kind_of}
 use Rattle.cc_meaning_typing.specs.declared.state.Pending.{Pending}
-use Rattle.cc_meaning_typing.specs.declared.state.Pending.TheVariants.{Nothing, Exception}
+use Rattle.cc_meaning_typing.specs.declared.state.Pending.TheVariants.{Nothing, Result, Exception}
 use Rattle.cc_meaning_typing.specs.declared.state.State.{State}
-use Rattle.cc_meaning_typing.specs.Types.{class_type, IsBelow}
-use Rattle.cc_meaning_typing.specs.Registers.{Covers, register_of}
+use Rattle.cc_meaning_typing.specs.Types.{class_type, IsBelow, is_same_type, least_above}
+use Rattle.cc_meaning_typing.specs.Registers.{Covers, join, register_of}
 
 -- ---- covering
 
@@ -32,6 +32,22 @@ pub data AllCover (program : Program) : List RegType → List RegType → Type 0
 pub record StateCovers (program : Program) (u s : State) : Type 0 where
   pub registers : AllCover program u.registers s.registers
   pub pending : PendingCovers program u.pending s.pending
+
+-- ---- the least state that covers two
+
+-- nothing is pending but the same result, or of two exceptions one of the least type that both are below
+unfoldable pub join_pending : Program → Pending → Pending → Pending
+join_pending program (Result a) (Result b) = cond (is_same_type a b) (Result a) Nothing
+join_pending program (Exception a) (Exception b) = Exception (least_above program a b)
+join_pending program _ _ = Nothing
+
+unfoldable pub join_registers : Program → List RegType → List RegType → List RegType
+join_registers program (b ∷ u) (a ∷ s) = join program b a ∷ join_registers program u s
+join_registers program _ _ = []
+
+-- the least state that covers two with as many registers
+unfoldable pub join_states : Program → State → State → State
+join_states program u s = record { registers = join_registers program u.registers s.registers; pending = join_pending program u.pending s.pending }
 
 -- ---- reading
 

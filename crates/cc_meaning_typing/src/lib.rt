@@ -1,7 +1,7 @@
 //! Register types, the typing rules, and what it is for a program to be well typed: definitions and laws.
 #![tactic(auto)]
 
-ghost use Rattle.cc_meaning_typing.specs.Laws.{TypeTrees, TypesAreOrdered, LeastTypes, RegistersAreOrdered, Joins, StatesAreOrdered, MonotoneRules, BoundedGrowth};
+ghost use Rattle.cc_meaning_typing.specs.Laws.{TypeTrees, TypesAreOrdered, LeastTypes, RegistersAreOrdered, Joins, StatesAreOrdered, StateJoins, MonotoneRules, BoundedGrowth};
 ghost use Rattle.cc_meaning_typing.specs.Worked.{TypesHold, JoinsHold, MovesHold, ResultsHold, ReturnsHold, ConstantsHold, ObjectsHold, ArraysHold, FieldsHold, CallsHold, OperationsHold, BranchesHold, StatesHold};
 
 mod state;
@@ -41,6 +41,12 @@ pub fn law_join()
 #[tactic(auto, using(crate::proofs::Registers::states_are_ordered))]
 pub fn law_states()
     ensures { StatesAreOrdered }
+{}
+
+/// In a hierarchy, two states with as many registers have a least one that covers both.
+#[tactic(auto, using(crate::proofs::StateJoin::state_joins))]
+pub fn law_state_join()
+    ensures { StateJoins }
 {}
 
 /// In a hierarchy, what a rule accepts it accepts of each state that this one covers, and what it gives then covers likewise.
