@@ -3,7 +3,9 @@
 
 mod hierarchy;
 mod registers;
+mod states;
 mod verified;
 
 pub use registers::{covers, fits, held, join, register_of};
+pub use states::{join_into, write, write_long};
 pub use verified::Verified;

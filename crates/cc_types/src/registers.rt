@@ -38,7 +38,8 @@ pub fn join(a: RegType, b: RegType, program: &Program) -> RegType
     }
 }
 
-fn same_register(a: RegType, b: RegType) -> bool
+/// Whether the same is known of two registers.
+pub fn same_register(a: RegType, b: RegType) -> bool
     ensures { IsTrue result ↔ (a ≡ b) }
 {
     match (a, b) {

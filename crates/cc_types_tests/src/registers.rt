@@ -7,7 +7,7 @@ ghost use Rattle.cc_types_tests.specs.Family.{family_classes};
 use cc_list::List;
 use cc_meaning::lists::ClassIx;
 use cc_meaning::program::{Base, Class, ClassKind, Classes, DexType, Program, RegType};
-use cc_types::{Verified, covers, fits, held, join, register_of};
+use cc_types::{Verified, covers, fits, held, join, join_into, register_of, write, write_long};
 use std::alloc::{AllocError, Global};
 use std::test::Fail;
 
@@ -137,5 +137,36 @@ fn what_fits(rt: HostRuntime) -> Result<(), Fail> {
 fn verified(rt: HostRuntime) -> Result<(), Fail> {
     let verified = Verified::new(family(rt.alloc())?);
     assert_eq!(rt; verified.program().classes.len(), 5);
+    Ok(())
+}
+
+#[test]
+fn in_place(rt: HostRuntime) -> Result<(), Fail> {
+    let program = family(rt.alloc())?;
+    let mut registers = List::from_slice(
+        rt.alloc(),
+        &[RegType::LongLow, RegType::LongHigh, RegType::Zero],
+    )?;
+    write(&mut registers, 1, RegType::Int);
+    assert!(rt;
+        matches!(registers.get(0), Some(RegType::Unset)),
+        "a first half is lost"
+    );
+    assert!(rt; matches!(registers.get(1), Some(RegType::Int)), "written");
+    write_long(&mut registers, 0);
+    assert!(rt;
+        matches!(registers.get(1), Some(RegType::LongHigh)),
+        "a second half"
+    );
+    let other = List::from_slice(rt.alloc(), &[RegType::LongLow, RegType::LongHigh, of(1)])?;
+    if registers.len() == other.len() {
+        assert!(rt;
+            !join_into(&mut registers, &other, &program),
+            "a reference for null"
+        );
+    }
+    if registers.len() == other.len() {
+        assert!(rt; join_into(&mut registers, &other, &program), "nothing new");
+    }
     Ok(())
 }
