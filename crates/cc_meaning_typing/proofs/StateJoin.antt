@@ -1,5 +1,5 @@
 -- The least state that covers two.
-use Rattle.std.proofs.Common.{◌≡◌, ◌⊎◌, ◌↔◌, inl, inr, ℕ, suc, true, false, cond, List, [], ◌∷◌, length, refl, sym, ap, ◌∙◌, subst, arith}
+use Rattle.std.proofs.Common.{◌≡◌, ◌↔◌, inl, inr, cond, List, [], ◌∷◌, length, refl, sym, subst, arith}
 use Rattle.cc_meaning.specs.declared.program.DexType.{DexType}
 use Rattle.cc_meaning.specs.declared.program.Program.{Program}
 use Rattle.cc_meaning.specs.declared.program.RegType.{RegType}
@@ -80,9 +80,10 @@ module _ (program : Program) (hierarchy : IsHierarchy program) where
 
   covering : (u s : State) → length u.registers ≡ length s.registers → StateCovers program u s ↔ (join_states program u s ≡ u)
   covering u s e =
-      let order = states_order program hierarchy in
-      (λ c. order.antisymmetric (join_states program u s) u (left u s e) (least u s u (order.reflexive u) c),
-       λ f. subst (λ z. StateCovers program z s) f (right u s e))
+      let order = states_order program hierarchy in (
+        λ c. order.antisymmetric (join_states program u s) u (left u s e) (least u s u (order.reflexive u) c),
+        λ f. subst (λ z. StateCovers program z s) f (right u s e),
+      )
 
   join_is_least : StateJoinIsLeast program
   join_is_least = record { left = left; right = right; least = least; covering = covering }
