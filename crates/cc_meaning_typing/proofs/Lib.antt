@@ -7,3 +7,5 @@ pub mod Monotone
 pub mod Growth
 pub mod Worked
 pub mod StateJoin
+pub mod Typed
+pub mod WorkedTyping

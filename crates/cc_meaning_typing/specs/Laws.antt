@@ -13,6 +13,8 @@ use Rattle.cc_meaning_typing.specs.Registers.{Covers, join}
 use Rattle.cc_meaning_typing.specs.States.{StateCovers, join_states}
 use Rattle.cc_meaning_typing.specs.Growth.{GrowthEnds}
 use Rattle.cc_meaning_typing.specs.Code.{Body}
+use Rattle.cc_meaning_typing.specs.Typing.{HasTyping}
+use Rattle.cc_meaning_typing.specs.WellTyped.{IsTarget, Reaches}
 use Rattle.cc_meaning_typing.specs.Rules.{Accepts, after, handler_state}
 
 -- a type is another, or the next one above it is below the other
@@ -103,3 +105,7 @@ MonotoneRules = (body : Body) → IsHierarchy body.program → RulesAreMonotone 
 
 abbrev pub BoundedGrowth : Type 0
 BoundedGrowth = (program : Program) → IsHierarchy program → GrowthEnds program
+
+-- what control can reach in a method that has a typing is an instruction that is no payload
+abbrev pub TypedReaches : Type 0
+TypedReaches = (body : Body) → HasTyping body → (at : ℕ) → Reaches body.code at → IsTarget body.code (Some at)

@@ -10,3 +10,4 @@ pub mod WellTyped
 pub mod Growth
 pub mod Laws
 pub mod Worked
+pub mod WorkedTyping

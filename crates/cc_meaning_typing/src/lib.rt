@@ -1,8 +1,9 @@
 //! Register types, the typing rules, and what it is for a program to be well typed: definitions and laws.
 #![tactic(auto)]
 
-ghost use Rattle.cc_meaning_typing.specs.Laws.{TypeTrees, TypesAreOrdered, LeastTypes, RegistersAreOrdered, Joins, StatesAreOrdered, StateJoins, MonotoneRules, BoundedGrowth};
+ghost use Rattle.cc_meaning_typing.specs.Laws.{TypeTrees, TypesAreOrdered, LeastTypes, RegistersAreOrdered, Joins, StatesAreOrdered, StateJoins, MonotoneRules, BoundedGrowth, TypedReaches};
 ghost use Rattle.cc_meaning_typing.specs.Worked.{TypesHold, JoinsHold, MovesHold, ResultsHold, ReturnsHold, ConstantsHold, ObjectsHold, ArraysHold, FieldsHold, CallsHold, OperationsHold, BranchesHold, StatesHold};
+ghost use Rattle.cc_meaning_typing.specs.WorkedTyping.{TypingsHold};
 
 mod state;
 
@@ -59,6 +60,18 @@ pub fn law_rules()
 #[tactic(auto, using(crate::proofs::Growth::bounded_growth))]
 pub fn law_growth()
     ensures { BoundedGrowth }
+{}
+
+/// A method with a typing falls neither off its end nor into a payload.
+#[tactic(auto, using(crate::proofs::Typed::typed_reaches))]
+pub fn law_typing()
+    ensures { TypedReaches }
+{}
+
+/// The definitions of typings at worked examples: a loop with a handler has a typing, a return of a register that holds nothing has none.
+#[tactic(auto, using(crate::proofs::WorkedTyping::typings_hold))]
+pub fn worked_typings()
+    ensures { TypingsHold }
 {}
 
 /// The definitions at worked examples: one for each row of the table of rules, and what each row refuses.
