@@ -1,0 +1,13 @@
+pub mod Hierarchy
+pub mod Types
+pub mod Heights
+pub mod Registers
+pub mod States
+pub mod Code
+pub mod Rules
+pub mod Typing
+pub mod WellTyped
+pub mod Growth
+pub mod Laws
+pub mod Worked
+pub mod WorkedTyping

@@ -1,0 +1,42 @@
+//! Programs that are well typed.
+
+ghost use Rattle.std.specs.Prelude.{◌≡◌};
+ghost use Rattle.cc_meaning_typing.specs.WellTyped.{WellTyped};
+
+use cc_meaning::program::Program;
+use std::marker::Model;
+
+/// A program that is well typed. Only such a program becomes one.
+#[derive(Drop)]
+pub struct Verified {
+    program: Program,
+}
+
+impl Model for Verified {
+    ghost use Rattle.cc_meaning.specs.declared.program.Program.{Program};
+    ghost use Rattle.cc_meaning_typing.specs.WellTyped.{WellTyped};
+
+    ghost Value = { Program };
+
+    ghost view = { λ it. it.program };
+
+    ghost invariant = { λ it. WellTyped it.program };
+}
+
+impl Verified {
+    /// The verified program. Takes no memory.
+    pub fn new(program: Program) -> Verified
+        requires { WellTyped program }
+        ensures { result ≡ program }
+    {
+        Verified { program }
+    }
+
+    /// The program, which is well typed. Takes no memory.
+    pub fn program(&self) -> &Program
+        ensures same { result.now ≡ self.now }
+        ensures well_typed { WellTyped self.now }
+    {
+        &self.program
+    }
+}
