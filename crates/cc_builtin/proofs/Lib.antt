@@ -1,0 +1,5 @@
+pub mod ByName
+pub mod Matches
+pub mod Spending
+pub mod Effecting
+pub mod Ending
