@@ -1,4 +1,5 @@
 pub mod ByName
+pub mod InOrder
 pub mod Matches
 pub mod Spending
 pub mod Effecting

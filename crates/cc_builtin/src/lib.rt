@@ -11,3 +11,6 @@ mod steps;
 mod texts;
 
 pub use calls::call;
+pub use lookup::is_rising;
+pub use matching::is_name;
+pub use rows::is_throwable;

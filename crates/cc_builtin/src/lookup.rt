@@ -1,13 +1,13 @@
 //! Classes by name.
 
-ghost use Rattle.std.specs.Prelude.{◌≡◌, ◌^◌, ◌≤◌, length, IfOk};
+ghost use Rattle.std.specs.Prelude.{◌≡◌, ◌^◌, ◌≤◌, ◌↔◌, length, IsTrue, IfOk};
 ghost use Rattle.cc_meaning.specs.BuiltIn.{null_pointer_exception_name, string_index_out_of_bounds_exception_name};
 ghost use Rattle.cc_meaning.specs.Lookup.{class_named};
 ghost use Rattle.cc_meaning.specs.Order.{IsRisingByName};
 
 use crate::texts::ascii;
 use cc_meaning::lists::ClassIx;
-use cc_meaning::program::Program;
+use cc_meaning::program::{Class, Program};
 use std::alloc::{AllocError, Global};
 
 fn class_of_name(program: &Program, name: &[u16]) -> Option<ClassIx>
@@ -49,4 +49,16 @@ pub(crate) fn string_index_out_of_bounds_exception(
 {
     let name = ascii(alloc, b"Ljava/lang/StringIndexOutOfBoundsException;")?;
     Ok(class_of_name(program, name.as_slice()))
+}
+
+/// Whether each class's name comes before that of the next one, and so of all later ones. A program's classes stand so.
+pub fn is_rising(classes: &[Class]) -> bool
+    ensures { IsTrue result ↔ IsRisingByName classes.now }
+{
+    for at in 1..classes.len() {
+        if !classes[at - 1].name.cmp(&classes[at].name).is_lt() {
+            return false;
+        }
+    }
+    true
 }

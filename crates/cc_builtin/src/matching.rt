@@ -116,7 +116,7 @@ pub(crate) fn is_member(program: &Program, method: &Method, text: &[u8]) -> bool
 
 /// Whether a text is a name.
 #[tactic(auto, using(crate::proofs::Matches::whole_of, crate::proofs::Matches::not_whole))]
-pub(crate) fn is_name(units: &[u16], text: &[u8]) -> bool
+pub fn is_name(units: &[u16], text: &[u8]) -> bool
     ensures { result ≡ bytes_eq units.now text.now }
 {
     match behind(text, units) {

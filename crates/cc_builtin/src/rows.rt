@@ -184,8 +184,9 @@ fn is_other_throwable(name: &[u16]) -> bool
         || is_name(name, b"Ljava/lang/StackOverflowError;")
 }
 
+/// Whether a name, as `Lc;`, is that of a built-in throwable.
 #[tactic(auto, using(crate::proofs::Matches::first_or_other))]
-fn is_throwable(name: &[u16]) -> bool
+pub fn is_throwable(name: &[u16]) -> bool
     ensures { result ≡ is_built_in_throwable name.now }
 {
     is_first_throwable(name) || is_other_throwable(name)
