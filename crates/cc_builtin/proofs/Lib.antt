@@ -1,0 +1,6 @@
+pub mod ByName
+pub mod InOrder
+pub mod Matches
+pub mod Spending
+pub mod Effecting
+pub mod Ending

@@ -1,0 +1,10 @@
+use Rattle.std.proofs.Common.{◌≡◌, Some}
+use Rattle.cc_meaning.specs.BuiltIn.{null_pointer_exception_name}
+use Rattle.cc_meaning.specs.Lookup.{class_named}
+use Rattle.cc_builtin.proofs.Ending.{class_ends}
+use Rattle.cc_builtin.proofs.argument.throw_null_pointer.Goals as goal
+
+pub returns-in-Some-clause-ok : goal.returns-in-Some-clause-ok
+returns-in-Some-clause-ok c =
+    let some : Some c.in-Some.class ≡ class_named null_pointer_exception_name c.args.program.now = rw c.in-Some.is at c.in_ok-class.ensures in
+    class_ends c.throw.result c.args.program.now null_pointer_exception_name c.in-Some.class c.args.world.now _ some c.throw.ensures.ok

@@ -1,0 +1,3 @@
+pub mod Matching
+pub mod Parts
+pub mod Ends

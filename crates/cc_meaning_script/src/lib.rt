@@ -1,0 +1,4 @@
+//! What a script's text says of a program.
+#![tactic(auto)]
+
+pub mod listed;

@@ -1,0 +1,11 @@
+pub mod Below
+pub mod ByName
+pub mod ByPlace
+pub mod ClassLemmas
+pub mod Each
+pub mod Members
+pub mod Places
+pub mod Resolving
+pub mod SeenLemmas
+pub mod Showing
+pub mod Values

@@ -1,0 +1,3 @@
+pub mod Gives
+pub mod Named
+pub mod Seen
