@@ -1,3 +1,9 @@
 pub mod Exchanges
 pub mod Judged
 pub mod Reached
+pub mod Courses
+pub mod Keeping
+pub mod Pauses
+pub mod Taken
+pub mod Travels
+pub mod Stands

@@ -1,5 +1,5 @@
 -- What a run whose moved function is done by a clone comes to, and what is sent and got for it.
-use Rattle.std.specs.Prelude.{◌≡◌, ◌≢◌, ◌⊎◌, ℕ, zero, suc, ◌≤◌, ◌<◌, ◌==◌, Bool, true, false, cond, ℤ, List, [], ◌∷◌, ◌++◌, length, drop, Option, Some, None, is_some, option_map, Result, Ok, Err, slice_set}
+use Rattle.std.specs.Prelude.{◌≡◌, ◌≢◌, ◌⊎◌, ℕ, zero, suc, ◌+◌, ◌≤◌, ◌<◌, ◌==◌, Bool, true, false, cond, ℤ, List, [], ◌∷◌, ◌++◌, length, drop, Option, Some, None, is_some, option_map, Result, Ok, Err, slice_set}
 use Rattle.std.specs.List.{flat_map}
 use Rattle.cc_meaning.specs.declared.file.Job.{Job}
 use Rattle.cc_meaning.specs.declared.frame.Frame.{Frame}
@@ -16,18 +16,20 @@ use Rattle.cc_meaning_nodes.specs.Frames.{Whole, front_of, Rest, Fails, frames_o
 use Rattle.cc_meaning_nodes.specs.Talk.{IsPrefixOf}
 use Rattle.cc_meaning_nodes.specs.Clone.{hello_kind, version, frame_bytes}
 use Rattle.cc_meaning_plain.specs.declared.plain.Plain.{Plain}
+use Rattle.cc_meaning_plain.specs.declared.plain.PlainInsn.{PlainInsn}
 use Rattle.cc_meaning_plain.specs.Laws.{AreBytes}
 use Rattle.cc_meaning_plain.specs.Plain.{IsPlain}
 use Rattle.cc_meaning_plain.specs.Program.{function_number, program_of, setting_of}
 use Rattle.cc_meaning_clone.specs.Hello.{with_length}
 use Rattle.cc_meaning_device.specs.Received.{Received, is_ready, Offloaded, offloaded}
-use Rattle.cc_meaning_device.specs.Straight.{plain_device, Course, course_with_line, course_came, called, course_of}
+use Rattle.cc_meaning_device.specs.Straight.{plain_device, value_back, Course, course_with_line, course_came, called, course_of, plain_course}
 use Rattle.cc_machine.specs.declared.progress.Progress.{Progress}
+use Rattle.cc_machine.specs.declared.progress.Came.{Came as MachineCame}
 use Rattle.cc_machine.specs.declared.progress.Pause.{Pause}
 use Rattle.cc_machine.specs.declared.progress.Pause.TheVariants as pauses
 use Rattle.cc_machine.specs.Running.{stage_ended}
 use Rattle.cc_outside.specs.Counting.{Rose, RoseBy}
-use Rattle.cc_link.specs.Links.{Known, Counts, known_sent, known_got}
+use Rattle.cc_link.specs.Links.{Known, Counts, NeverFall, known_sent, known_got}
 use Rattle.cc_device.specs.declared.contact.Contact.{Contact}
 use Rattle.cc_device.specs.declared.exchange.Halt.{Halt}
 use Rattle.cc_device.specs.declared.exchange.Halt.TheVariants as halts
@@ -87,12 +89,37 @@ pub record Reaches (p : Program) (hello : List ℕ) (patience : ℕ) (image : Ru
 
 -- ---- a run
 
+abbrev pub IsLater : Pause → (before now : ℕ) → Type 0
+IsLater (pauses.AtEntry entry) before now = before < now
+IsLater (pauses.Done ends) before now = Unit {0}
+
 -- what a run comes to that paused here and holds this, while the device stands so with its clone
 abbrev pub paused_course : Plain → (moves : ℕ → Bool) → Pause → Progress → Received → Course
 paused_course plain moves (pauses.Done ends) p t = record { stage = stage_ended p ends; received = t }
 paused_course plain moves (pauses.AtEntry entry) p t =
     course_with_line p.text (course_came (called plain moves entry.function entry.argument p.instructions p.words t)
     (λ n left words t'. course_of plain moves (slice_set p.numbers entry.to n) (drop p.next plain.main.insns) left words t'))
+
+-- what a run comes to that holds this, with these instructions to come
+abbrev pub course_from : Plain → (moves : ℕ → Bool) → Progress → List PlainInsn → Received → Course
+course_from plain moves p rest t = course_with_line p.text (course_of plain moves p.numbers rest p.instructions p.words t)
+
+-- what a run comes to behind a call that came to this, whose result goes into a register
+abbrev pub behind_call : Plain → (moves : ℕ → Bool) → (to : ℕ) → MachineCame → Progress → Received → Course
+behind_call plain moves to came p t =
+    course_with_line p.text (course_came (record { value = came.value; instructions = came.instructions; words = came.words; received = t })
+    (λ n left words t'. course_of plain moves (slice_set p.numbers to n) (drop p.next plain.main.insns) left words t'))
+
+-- where a device fell back, the run pauses at no function
+abbrev pub stops_in : (fallen : Bool) → Option ℕ → Option ℕ
+stops_in true moved = None
+stops_in false moved = moved
+
+-- a run goes on: no counter grows, and between two entries an instruction is done
+pub record Keeps (old : Progress) (pause : Pause) (new : Progress) : Type 0 where
+  pub instructions : new.instructions ≤ old.instructions
+  pub words : new.words ≤ old.words
+  pub later : IsLater pause old.next new.next
 
 -- how a device stands with its clone, while these frames come and these images were noted
 abbrev pub received_of : Contact → List RunImage → List Frame → Received
@@ -160,6 +187,23 @@ TravelsSo p hello patience contact sent got images old new = by contact.end cont
     by None false = StaysHome sent got images
     by None true = TravelsOn hello sent got images
     by (Some e) is_open = (images ≢ []) × EndsTravel p hello patience sent got images e old new
+
+-- These bytes were sent and got for these images so far, and over all frames that may still come the run is what is left of it.
+pub record Stood (plain : Plain) (moved : Option ℕ) (job : Job) (contact : Contact) (left : Received → Course) (k : Known) (old : Counts) (k' : Known) (new : Counts) : Type 0 where
+  pub sent : List ℕ
+  pub got : List ℕ
+  pub images : List RunImage
+  pub known : k' ≡ known_got got (known_sent sent k)
+  pub counts : NeverFall old new
+  pub travels : TravelsSo (program_of plain) (hello_bytes job) job.patience contact sent got images old new
+  pub course : GoesSo contact.end (λ frames. plain_course plain (moves_of plain moved) job.limits frames) got (λ frames. left (received_of contact images frames))
+
+-- what calling the clone came to: its Back, or why the device falls back
+pub data CallsThere (plain : Plain) (job : Job) (image : RunImage) (contact : Contact) (k : Known) (old : Counts) (k' : Known) (new : Counts) : Option MachineCame → Contact → Type 0 where
+  gives_back : (back : BackImage) → Reaches (program_of plain) (hello_bytes job) job.patience image contact.is_open k old (Ok back) k' new →
+      CallsThere plain job image contact k old k' new (Some (record { value = value_back back.ending; instructions = back.instructions; words = back.words })) (record { is_open = true; merged = contact.merged + 1; end = contact.end })
+  falls_back : (e : LinkEnd) → Reaches (program_of plain) (hello_bytes job) job.patience image contact.is_open k old (Err (halts.End e)) k' new →
+      CallsThere plain job image contact k old k' new None (record { is_open = contact.is_open; merged = contact.merged; end = Some e })
 
 -- ---- what an offloaded run promises
 

@@ -6,5 +6,3 @@ mod contact;
 mod device;
 mod exchange;
 mod hello;
-
-pub use device::offload;
