@@ -7,3 +7,5 @@ pub mod Pauses
 pub mod Taken
 pub mod Travels
 pub mod Stands
+pub mod Calls
+pub mod Offloaded

@@ -3,6 +3,9 @@ use Rattle.std.proofs.Common.{◌≡◌, ℕ, zero, suc, ◌+◌, ◌≤◌, ◌
 use Rattle.std.specs.declared.alloc.AllocError.{AllocError}
 use Rattle.cc_meaning.specs.declared.fault.Memory.{Memory}
 use Rattle.cc_meaning.specs.declared.report.StopCause.{StopCause}
+use Rattle.cc_meaning.specs.declared.report.StopCause.TheVariants as cause
+use Rattle.cc_meaning.specs.declared.report.Ending.TheVariants as ending
+use Rattle.cc_meaning_run.specs.Acts.{less_by}
 use Rattle.cc_meaning_plain.specs.declared.plain.PlainInsn.{PlainInsn}
 use Rattle.cc_meaning_plain.specs.declared.plain.Plain.{Plain}
 use Rattle.cc_meaning_plain.specs.Program.{function_number}
@@ -13,11 +16,12 @@ use Rattle.cc_machine.specs.declared.progress.Came.{Came}
 use Rattle.cc_machine.specs.declared.progress.Pause.{Pause}
 use Rattle.cc_machine.specs.declared.progress.Pause.TheVariants as pauses
 use Rattle.cc_machine.specs.Going.{Stepped, OnWith, Paused, Went, stepped_to, stopped, taking, result_taken, behind, came_back, is_stop, gone_on, goes}
-use Rattle.cc_device.specs.Travelling.{moves_of, stops_in, course_from, paused_course, behind_call, IsLater, Keeps}
+use Rattle.cc_machine.specs.Running.{begun, stage_ended}
+use Rattle.cc_device.specs.Travelling.{moves_of, stops_in, course_from, begun_with, begun_course, paused_course, behind_call, IsLater, Keeps}
 use Rattle.cc_device.proofs.Courses.{course_went, moved_is_done, fallen_is_done, goes_comes, back_comes}
 use Rattle.cc_device.proofs.Keeping.{StepsSo, back_keeps, goes_keeps}
 
-done_by : (plain : Plain) (moved : Option ℕ) (t : Received) (fallen : Bool) → t.fallen ≡ fallen → (function : ℕ) → is_stop (stops_in fallen moved) function ≡ false → (not t.fallen && moves_of plain moved (function_number plain function)) ≡ false
+pub done_by : (plain : Plain) (moved : Option ℕ) (t : Received) (fallen : Bool) → t.fallen ≡ fallen → (function : ℕ) → is_stop (stops_in fallen moved) function ≡ false → (not t.fallen && moves_of plain moved (function_number plain function)) ≡ false
 done_by plain moved t true e function h = fallen_is_done plain moved t e function h
 done_by plain moved t false e function h = moved_is_done plain moved t function h
 
@@ -106,3 +110,53 @@ if_ok (Err e) P Q h p = p
 pub if_ok_two : {A E : Type 0} (r : Result A E) (P O Q : A → Type 0) → ((a : A) → P a → O a → Q a) → IfOk r P → IfOk r O → IfOk r Q
 if_ok_two (Ok a) P O Q h p o = h a p o
 if_ok_two (Err e) P O Q h p o = p
+
+-- ---- the beginning
+
+begins_end : (o : Option ℕ) (old : Progress) → IsEnd (begun o old)
+begins_end None old = tt
+begins_end (Some words) old = tt
+
+words_left : (n left : ℕ) → less_by 2 n ≡ Some left → left ≤ n
+unfolding less_by
+words_left zero left e = absurd cc
+words_left (suc zero) left e = absurd cc
+words_left (suc (suc n)) left e = let same : n ≡ left = cc in omega arith
+
+paused_parts : (a b : Pause) (p q : Progress) → Paused a p ≡ Paused b q → (a ≡ b) × (p ≡ q)
+paused_parts a b p q e = (cc, cc)
+
+on_parts : (p q : Progress) → OnWith p ≡ OnWith q → p ≡ q
+on_parts p q e = cc
+
+module _ (plain : Plain) (moves : ℕ → Bool) (old : Progress) where
+  begun_by : (o : Option ℕ) (pause : Pause) (new : Progress) → Paused pause new ≡ begun o old → (t : Received) → begun_with plain moves o old t ≡ paused_course plain moves pause new t
+  begun_by None pause new step t = let same = paused_parts pause (pauses.Done (ending.Stopped cause.Heap)) new old step in rw (same.0, same.1) refl
+  begun_by (Some words) pause new step t = absurd cc
+
+  pub begun_paused : (pause : Pause) (new : Progress) → Paused pause new ≡ begun (less_by 2 old.words) old → (t : Received) → begun_course plain moves old t ≡ paused_course plain moves pause new t
+  begun_paused pause new step t = begun_by (less_by 2 old.words) pause new step t
+
+  on_by : (o : Option ℕ) (mid : Progress) → OnWith mid ≡ begun o old → (t : Received) → begun_with plain moves o old t ≡ course_from plain moves mid (drop mid.next plain.main.insns) t
+  on_by None mid step t = absurd cc
+  on_by (Some words) mid step t = ap (λ (p : Progress). course_from plain moves p (drop p.next plain.main.insns) t) (sym (on_parts mid (record old { words = words }) step))
+
+  pub begun_on : (mid : Progress) → OnWith mid ≡ begun (less_by 2 old.words) old → (t : Received) → begun_course plain moves old t ≡ course_from plain moves mid (drop mid.next plain.main.insns) t
+  begun_on mid step t = on_by (less_by 2 old.words) mid step t
+
+end_is_later : (old : Progress) (pause : Pause) (new : Progress) → IsEnd (Paused pause new) → IsLater pause old.next new.next
+end_is_later old (pauses.AtEntry entry) new h = absurd h
+end_is_later old (pauses.Done ends) new h = tt
+
+begun_steps : (o : Option ℕ) (old : Progress) → ((left : ℕ) → o ≡ Some left → left ≤ old.words) → StepsSo old (begun o old)
+begun_steps None old h = record { instructions = omega arith; words = omega arith; next = refl }
+begun_steps (Some words) old h = record { instructions = omega arith; words = h words refl; next = refl }
+
+module _ (old : Progress) where
+  pub begun_paused_keeps : (pause : Pause) (new : Progress) → Paused pause new ≡ begun (less_by 2 old.words) old → Keeps old pause new × (new.next ≡ old.next)
+  begun_paused_keeps pause new step =
+      let k = subst (λ (s : Stepped). StepsSo old s) (sym step) (begun_steps (less_by 2 old.words) old (words_left old.words)) in
+      (record { instructions = k.instructions; words = k.words; later = end_is_later old pause new (subst IsEnd (sym step) (begins_end (less_by 2 old.words) old)) }, k.next)
+
+  pub begun_on_keeps : (mid : Progress) → OnWith mid ≡ begun (less_by 2 old.words) old → (mid.instructions ≤ old.instructions) × (mid.words ≤ old.words) × (mid.next ≡ old.next)
+  begun_on_keeps mid step = let k = subst (λ (s : Stepped). StepsSo old s) (sym step) (begun_steps (less_by 2 old.words) old (words_left old.words)) in (k.instructions, k.words, k.next)

@@ -6,10 +6,13 @@ use Rattle.cc_meaning.specs.declared.frame.Frame.{Frame}
 use Rattle.cc_meaning.specs.declared.report.Limits.{Limits}
 use Rattle.cc_meaning.specs.declared.report.Report.{Report}
 use Rattle.cc_meaning.specs.declared.travel.Travel.{Travel}
+use Rattle.cc_meaning_run.specs.Acts.{less_by}
 use Rattle.cc_meaning_run.specs.Local.{local}
 use Rattle.cc_meaning.specs.declared.image.RunImage.{RunImage}
 use Rattle.cc_meaning.specs.declared.image.BackImage.{BackImage}
 use Rattle.cc_meaning.specs.declared.program.Program.{Program}
+use Rattle.cc_meaning.specs.declared.report.Ending.TheVariants as ending
+use Rattle.cc_meaning.specs.declared.report.StopCause.TheVariants as cause
 use Rattle.cc_meaning.specs.declared.travel.LinkEnd.{LinkEnd}
 use Rattle.cc_meaning.specs.declared.travel.LinkEnd.TheVariants as ends
 use Rattle.cc_meaning_nodes.specs.Frames.{Whole, front_of, Rest, Fails, frames_of}
@@ -25,6 +28,7 @@ use Rattle.cc_meaning_device.specs.Received.{Received, is_ready, Offloaded, offl
 use Rattle.cc_meaning_device.specs.Straight.{plain_device, value_back, Course, course_with_line, course_came, called, course_of, plain_course}
 use Rattle.cc_machine.specs.declared.progress.Progress.{Progress}
 use Rattle.cc_machine.specs.declared.progress.Came.{Came as MachineCame}
+use Rattle.cc_machine.specs.declared.progress.Entry.{Entry}
 use Rattle.cc_machine.specs.declared.progress.Pause.{Pause}
 use Rattle.cc_machine.specs.declared.progress.Pause.TheVariants as pauses
 use Rattle.cc_machine.specs.Running.{stage_ended}
@@ -109,6 +113,14 @@ abbrev pub behind_call : Plain → (moves : ℕ → Bool) → (to : ℕ) → Mac
 behind_call plain moves to came p t =
     course_with_line p.text (course_came (record { value = came.value; instructions = came.instructions; words = came.words; received = t })
     (λ n left words t'. course_of plain moves (slice_set p.numbers to n) (drop p.next plain.main.insns) left words t'))
+
+-- what a run comes to that made nothing yet: the array of no arguments takes two words
+abbrev pub begun_with : Plain → (moves : ℕ → Bool) → Option ℕ → Progress → Received → Course
+begun_with plain moves None p t = record { stage = stage_ended p (ending.Stopped cause.Heap); received = t }
+begun_with plain moves (Some words) p t = course_from plain moves (record p { words = words }) (drop p.next plain.main.insns) t
+
+abbrev pub begun_course : Plain → (moves : ℕ → Bool) → Progress → Received → Course
+begun_course plain moves p t = begun_with plain moves (less_by 2 p.words) p t
 
 -- where a device fell back, the run pauses at no function
 abbrev pub stops_in : (fallen : Bool) → Option ℕ → Option ℕ
@@ -204,6 +216,15 @@ pub data CallsThere (plain : Plain) (job : Job) (image : RunImage) (contact : Co
       CallsThere plain job image contact k old k' new (Some (record { value = value_back back.ending; instructions = back.instructions; words = back.words })) (record { is_open = true; merged = contact.merged + 1; end = contact.end })
   falls_back : (e : LinkEnd) → Reaches (program_of plain) (hello_bytes job) job.patience image contact.is_open k old (Err (halts.End e)) k' new →
       CallsThere plain job image contact k old k' new None (record { is_open = contact.is_open; merged = contact.merged; end = Some e })
+
+-- what a call came to, and how the device stands behind it
+pub record CallDone (plain : Plain) (moved : Option ℕ) (job : Job) (entry : Entry) (p : Progress) (contact : Contact) (k : Known) (old : Counts) (k' : Known) (new : Counts) (untouched : Type 0) (came : MachineCame) (contact' : Contact) : Type 0 where
+  pub stands : (k0 : Known) (first : Counts) → Stood plain moved job contact (paused_course plain (moves_of plain moved) (pauses.AtEntry entry) p) k0 first k old →
+      Stood plain moved job contact' (behind_call plain (moves_of plain moved) entry.to came p) k0 first k' new
+  pub instructions : came.instructions ≤ p.instructions
+  pub words : came.words ≤ p.words
+  pub merged : contact'.merged ≤ contact.merged + 1
+  pub home : contact'.is_open ≡ false → contact'.end ≡ None → untouched
 
 -- ---- what an offloaded run promises
 

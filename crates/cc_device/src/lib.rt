@@ -6,3 +6,5 @@ mod contact;
 mod device;
 mod exchange;
 mod hello;
+
+pub use device::offload;

@@ -20,11 +20,10 @@ at_start = Open Waiting []
 abbrev pub said_to : Result Plain ℕ → List ℕ → List ℕ
 said_to verdict sent = says (plain_clone verdict) at_start sent
 
--- the bytes got are a front of what a clone says to the bytes sent
+-- The bytes got are a front of what a clone says to the bytes sent, by each right verdict on its Hello, of which there is one at most. No verdict is handed
+-- out: nobody may have looked at the Hello yet.
 pub record IsHonest (sent got : List ℕ) : Type 0 where
-  pub verdict : Result Plain ℕ
-  pub is_right : IsVerdict at_start sent verdict
-  pub front : IsPrefixOf got (said_to verdict sent)
+  pub front : (verdict : Result Plain ℕ) → IsVerdict at_start sent verdict → IsPrefixOf got (said_to verdict sent)
 
 -- a clone says more to the bytes sent than was got
 pub record Owes (sent got : List ℕ) : Type 0 where

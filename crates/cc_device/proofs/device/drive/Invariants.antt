@@ -1,0 +1,22 @@
+use Rattle.std.proofs.Common.{◌≡◌, ◌↔◌, ◌-◌, ◌≤◌, ◌<◌, ◌^◌, false, None, length}
+use Rattle.cc_link.specs.Links.{Known, Counts, NeverFall}
+use Rattle.cc_device.specs.Travelling.{moves_of, paused_course, IsLater, Stood}
+use Rattle.cc_device.proofs.Calls.{waiting}
+use Rattle.cc_device.proofs.device.drive.Given as goal
+
+abbrev pub invariant-calling : goal.invariant-calling
+invariant-calling g l = record {
+  instructions : l.machine.instructions ≤ 4294967296;
+  words : l.machine.words ≤ 4194304;
+  within : l.machine.next ≤ length l.plain.main.insns;
+  later : IsLater l.pause l.contact.merged l.machine.next;
+  stands : (k : Known) (c : Counts) →
+    Stood l.fn.plain l.fn.moved l.fn.job l.fn.contact (paused_course l.fn.plain (moves_of l.fn.plain l.fn.moved) l.fn.first l.fn.machine) k c (g.L.Link.known l.fn.link) (g.L.Link.counts l.fn.link) →
+    Stood l.plain l.moved l.job l.contact (paused_course l.plain (moves_of l.plain l.moved) l.pause l.machine) k c (g.L.Link.known l.link) (g.L.Link.counts l.link);
+  home : l.contact.is_open ≡ false → l.contact.end ≡ None → l.link ≡ l.fn.link;
+  counts : NeverFall (g.L.Link.counts l.fn.link) (g.L.Link.counts l.link);
+  honest : g.L.Link.honest l.fn.link ↔ g.L.Link.honest l.link;
+}
+
+abbrev pub decreases-calling : goal.decreases-calling
+decreases-calling g l = waiting l.pause (length l.plain.main.insns - l.machine.next)

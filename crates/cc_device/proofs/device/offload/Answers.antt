@@ -1,0 +1,22 @@
+use Rattle.std.proofs.Common.{◌≡◌, rules}
+use Rattle.cc_device.proofs.Offloaded.{stands_first, offloads_so, is_local}
+use Rattle.cc_device.proofs.device.offload.Goals as goal
+
+pub returns-clause-offloads : goal.returns-clause-offloads
+returns-clause-offloads g c =
+    let known = g.L.Link.known in
+    let counts = g.L.Link.counts in
+    let plain = c.args.plain.now in
+    let job = c.args.job.now in
+    let first = stands_first plain c.args.moved job c.in_ok-machine.machine c.begin.new.machine c.in_ok-first.first (known c.args.link.now) (counts c.args.link.now) (search rules) c.in_ok-first.ensures.course in
+    let stood = c.in_ok-ending.ensures.stands (known c.args.link.now) (counts c.args.link.now) first in
+    offloads_so c.law_plain_offloads.ensures plain c.args.moved job c.drive.new.contact c.drive.new.machine c.in_ok-ending.ending (known c.args.link.now) (counts c.args.link.now) (known c.drive.new.link) (counts c.drive.new.link) c.requires.of_file stood
+    (c.drive.new.link ≡ c.args.link.now) c.report-report.result c.in_ok-ending.ensures.home c.report-report.ensures
+
+pub returns-clause-transparent : goal.returns-clause-transparent
+returns-clause-transparent g c =
+    let known = g.L.Link.known in
+    let counts = g.L.Link.counts in
+    λ honest fresh hello.
+    is_local c.law_clone_is_transparent.ensures c.args.plain.now c.args.moved c.args.job.now c.report-report.result _ (known c.args.link.now) (counts c.args.link.now) (known c.drive.new.link) (counts c.drive.new.link) (c.drive.new.link ≡ c.args.link.now)
+    c.requires.of_file c.requires.instructions c.requires.words c.requires.hello (g.met.L.Link.tells c.drive.new.link (c.drive.ensures.honest.0 honest)) fresh hello (returns-clause-offloads g c)
