@@ -14,13 +14,15 @@ use Rattle.cc_meaning.specs.declared.report.Report.{Report}
 use Rattle.cc_meaning.specs.declared.travel.LinkEnd.{LinkEnd}
 use Rattle.cc_meaning.specs.declared.travel.Travel.{Travel}
 use Rattle.cc_meaning_run.specs.Acts.{less_by}
-use Rattle.cc_meaning_nodes.specs.Frames.{Frames, spelling, frames_of}
+use Rattle.cc_meaning_nodes.specs.Frames.{IsFrame, Rest, Frames, with_frames, spelling, frames_of, frames_from}
+use Rattle.cc_meaning_nodes.specs.FrameLaws.{GoesOn, IsReadAgain}
 use Rattle.cc_meaning_nodes.specs.Talk.{IsPrefixOf}
 use Rattle.cc_meaning_nodes.specs.Clone.{hello_kind, frame_bytes}
 use Rattle.cc_meaning_plain.specs.declared.plain.Plain.{Plain}
 use Rattle.cc_meaning_plain.specs.Program.{program_of, setting_of}
 use Rattle.cc_meaning_plain.specs.Staged.{stage_report}
-use Rattle.cc_meaning_clone.specs.Hello.{IsHelloOf}
+use Rattle.cc_meaning_clone.specs.Hello.{IsHelloOf, IsJudged, accepted}
+use Rattle.cc_meaning_clone.specs.Plain.{IsVerdict, IsJudgedFirst}
 use Rattle.cc_meaning_device.specs.Received.{Received, not_opened, Offloaded, offloaded}
 use Rattle.cc_meaning_device.specs.Straight.{Course, course_within, plain_course, offloaded_by, plain_device, PlainOffloads}
 use Rattle.cc_meaning_device.specs.Honest.{run_frame, requests, IsExchange}
@@ -30,7 +32,7 @@ use Rattle.cc_machine.specs.declared.progress.Pause.{Pause}
 use Rattle.cc_machine.specs.declared.progress.Pause.TheVariants as pauses
 use Rattle.cc_machine.specs.Running.{opening, stage_ended}
 use Rattle.cc_link.specs.Links.{Known, Counts, NeverFall, known_sent, known_got}
-use Rattle.cc_link.specs.Honest.{IsHonest, IsHonestLink, told}
+use Rattle.cc_link.specs.Honest.{at_start, IsHonest, IsHonestLink, told}
 use Rattle.cc_device.specs.declared.contact.Contact.{Contact}
 use Rattle.cc_device.specs.Judging.{run_bytes}
 use Rattle.cc_device.specs.Travelling.{IsOfFile, moves_of, hello_payload, hello_bytes, course_from, begun_with, begun_course, paused_course, received_of, GoesSo, begins_ready, due, EndsTravel, not_dialed, in_sending, in_awaiting, by_frame, TravelsOn, StaysHome, TravelsSo, TravelsAs, Stood, offloaded_over, Offloads, IsLocal}
@@ -152,21 +154,44 @@ asked p job None sent got images old new (inl t) = (requests (hello_payload job)
 asked p job None sent got images old new (inr t) = prefix_trans sent _ _ (prefix_is sent _ t.all) (due_asks job (frames_of got).frames images)
 asked p job (Some e) sent got images old new t = asked_by p job sent got images e old new t.1
 
-pub is_local : (law : CloneIsTransparent) (plain : Plain) (moved : Option ℕ) (job : Job) (report : Report) (travel : Travel) (k : Known) (old : Counts) (k' : Known) (new : Counts) (untouched : Type 0) → IsOfFile plain →
+-- ---- the verdict on what was sent
+
+first_is : (frames more others : List Frame) (f : Frame) (verdict : Result Plain ℕ) → frames ++ more ≡ f ∷ others → IsJudged f.payload verdict → IsJudgedFirst frames verdict
+first_is [] more others f verdict e judged = tt
+first_is (g ∷ gs) more others f verdict e judged = λ kind. subst (λ (x : Frame). IsJudged x.payload verdict) (sym (head_of g gs more f others e)) judged
+  where
+    head_of : (g : Frame) (gs more : List Frame) (f : Frame) (others : List Frame) → (g ∷ gs) ++ more ≡ f ∷ others → g ≡ f
+    head_of g gs more f others e = cc
+
+-- a front of what is asked begins with the Hello, once a frame of it is whole
+pub judged_so : (goes_on : GoesOn) (again : IsReadAgain) (job : Job) (plain : Plain) (sent : List ℕ) (images : List RunImage) → length (hello_payload job) ≤ 67108864 → IsHelloOf (hello_payload job) plain →
+    IsPrefixOf sent (requests (hello_payload job) images) → IsVerdict at_start sent (Ok plain)
+judged_so goes_on again job plain sent images short hello p =
+    let f : Frame = record { kind = hello_kind; payload = hello_payload job } in
+    let is_frame : IsFrame f = record { low = omega arith; high = omega arith; short = short } in
+    let runs = flat_map (λ image. spelling (run_frame image)) images in
+    let parts : frames_of (sent ++ p.0) ≡ with_frames (frames_of sent).frames (frames_from (frames_of sent).ending p.0) = goes_on (Rest []) sent p.0 in
+    let all : frames_of (requests (hello_payload job) images) ≡ with_frames (f ∷ []) (frames_of runs) =
+        ap (λ (xs : List ℕ). frames_of (xs ++ runs)) (sym (append-nil (frame_bytes hello_kind (hello_payload job)))) ∙ again (f ∷ []) runs (is_frame, tt) in
+    first_is (frames_of sent).frames (frames_from (frames_of sent).ending p.0).frames (frames_of runs).frames f (Ok plain) (ap Frames.frames (sym parts ∙ ap frames_of p.1 ∙ all)) (accepted plain hello)
+
+pub is_local : (law : CloneIsTransparent) (goes_on : GoesOn) (again : IsReadAgain) (plain : Plain) (moved : Option ℕ) (job : Job) (report : Report) (travel : Travel) (k : Known) (old : Counts) (k' : Known) (new : Counts) (untouched : Type 0) → IsOfFile plain →
     job.limits.instructions ≤ 4294967296 → job.limits.words ≤ 4194304 → length (hello_payload job) ≤ 67108864 →
     IsHonestLink k' → k ≡ told [] [] → IsHelloOf (hello_payload job) plain → Offloads plain moved job report travel k old k' new untouched → IsLocal plain job.limits report
-is_local law plain moved job report travel k old k' new untouched f few small short honest fresh hello o =
+is_local law goes_on again plain moved job report travel k old k' new untouched f few small short honest fresh hello o =
     let known : k' ≡ told o.sent o.got = o.known ∙ ap (λ (j : Known). known_got o.got (known_sent o.sent j)) fresh in
     let h = honest o.sent o.got known in
     let fits : FitImages job.limits = record { instructions = omega (arith, few); words = omega (arith, small) } in
+    let sent = asked (program_of plain) job travel.fallback o.sent o.got (offloaded_over plain moved job.limits (frames_of o.got).frames).received.images old new o.travels in
+    let right = judged_so goes_on again job plain o.sent _ short hello sent in
     let exchange : IsExchange plain (offloaded_over plain moved job.limits (frames_of o.got).frames).received.images o.got = record {
       hello = hello_payload job;
       is_hello = hello;
       hello_is_short = short;
       sent = o.sent;
-      is_sent = asked (program_of plain) job travel.fallback o.sent o.got (offloaded_over plain moved job.limits (frames_of o.got).frames).received.images old new o.travels;
-      verdict = h.verdict;
-      is_verdict = h.is_right;
-      is_got = h.front;
+      is_sent = sent;
+      verdict = Ok plain;
+      is_verdict = right;
+      is_got = h.front (Ok plain) right;
     } in
     sym (law f.0 plain (moves_of plain moved) job.limits o.got f.1 f.2 fits exchange) ∙ o.reports

@@ -303,6 +303,8 @@ pub fn offload<L: Link>(
 {
     law_plain_offloads();
     law_clone_is_transparent();
+    frame_laws::goes_on();
+    frame_laws::is_read_again();
     let mut machine = Machine::start(alloc, plain, job.limits)?;
     let mut contact = Contact {
         is_open: false,

@@ -1,7 +1,6 @@
 -- What a run without stops comes to is what its instructions come to.
-use Rattle.std.proofs.Common.{◌≡◌, ℕ, zero, suc, ◌+◌, ◌-◌, ℤ, pos, List, [], ◌∷◌, ◌++◌, length, drop, Option, Some, None, refl, sym, ap, ◌∙◌, subst, slice_get, slice_set, replicate}
+use Rattle.std.proofs.Common.{◌≡◌, ℕ, zero, suc, ◌+◌, ℤ, List, [], ◌∷◌, ◌++◌, length, drop, Option, Some, None, refl, sym, ap, ◌∙◌, subst, slice_get, slice_set}
 use Rattle.std.proofs.lemmas.List.{append_assoc, append-nil}
-use Rattle.cc_meaning.specs.declared.report.StopCause.{StopCause}
 use Rattle.cc_meaning.specs.declared.report.StopCause.TheVariants as cause
 use Rattle.cc_meaning.specs.declared.report.Ending.{Ending}
 use Rattle.cc_meaning.specs.declared.report.Ending.TheVariants as ending
@@ -19,7 +18,7 @@ use Rattle.cc_machine.specs.declared.progress.Progress.{Progress}
 use Rattle.cc_machine.specs.declared.progress.Entry.{Entry}
 use Rattle.cc_machine.specs.declared.progress.Pause.{Pause}
 use Rattle.cc_machine.specs.declared.progress.Pause.TheVariants as pauses
-use Rattle.cc_machine.specs.Going.{Stepped, OnWith, Paused, Went, stopped, taking as taking_steps, result_taken, behind, came_back, given, came_here, printed, acted, stepped, returned, gone_on, goes}
+use Rattle.cc_machine.specs.Going.{Stepped, OnWith, Went, taking as taking_steps, result_taken, came_back, given, came_here, printed, acted, stepped, returned, gone_on, goes}
 use Rattle.cc_machine.specs.Running.{opening, begun, stage_ended, all_gone}
 
 abbrev IsDone : Pause → Type 0

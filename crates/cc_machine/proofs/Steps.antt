@@ -1,5 +1,5 @@
 -- The steps of a run.
-use Rattle.std.proofs.Common.{◌≡◌, ℕ, zero, suc, ◌+◌, ◌-◌, ◌<◌, ◌≤◌, ℤ, pos, List, [], ◌∷◌, ◌++◌, length, drop, Option, Some, None, Result, Ok, Err, refl, sym, ap, ◌∙◌, subst, arith, slice_get, slice_set, slice_index_or, Bool, true, false, MatchBool, MatchOption, IfOk, ◌⊎◌, inl, inr}
+use Rattle.std.proofs.Common.{◌≡◌, ℕ, suc, ◌+◌, ◌-◌, ◌<◌, ◌≤◌, ℤ, pos, List, [], ◌∷◌, ◌++◌, length, drop, Option, Some, None, Result, Ok, Err, refl, sym, ap, ◌∙◌, subst, arith, slice_get, slice_index_or, Bool, true, false, MatchBool, MatchOption, IfOk, ◌⊎◌, inl, inr}
 use Rattle.std.specs.declared.alloc.AllocError.{AllocError}
 use Rattle.std.specs.Fmt.{signed_decimal}
 use Rattle.std.proofs.lemmas.List.{append_assoc, drop_more}
@@ -15,13 +15,12 @@ use Rattle.cc_meaning_plain.specs.declared.plain.PlainFunction.{PlainFunction}
 use Rattle.cc_meaning_plain.specs.Text.{number_at, numbers_after, value_by, instructions_by}
 use Rattle.cc_meaning_plain.proofs.Words.{less_some, less_none}
 use Rattle.cc_machine.specs.declared.progress.Progress.{Progress}
-use Rattle.cc_machine.specs.declared.progress.Entry.{Entry}
 use Rattle.cc_machine.specs.declared.progress.Came.{Came}
 use Rattle.cc_machine.specs.declared.progress.Pause.{Pause}
 use Rattle.cc_machine.specs.declared.progress.Pause.TheVariants as pauses
 use Rattle.cc_machine.specs.Given.{Gives, GivesAt}
 use Rattle.cc_machine.specs.Lines.{Printed, TooFewWords}
-use Rattle.cc_machine.specs.Going.{Stepped, OnWith, Paused, Went, stepped_to, stopped, taking, result_taken, came_back, given, came_here, printed, is_stop, entered, entry_of, acted, stepped, returned, gone_on, goes}
+use Rattle.cc_machine.specs.Going.{Stepped, OnWith, Went, stepped_to, stopped, taking, result_taken, came_back, given, came_here, printed, is_stop, entered, acted, stepped, returned, gone_on, goes}
 use Rattle.cc_machine.specs.Running.{begun}
 
 pub push_line : (old mid new : List ℕ) (n : ℤ) → mid ≡ old ++ signed_decimal n → new ≡ mid ++ 10 ∷ [] → new ≡ old ++ line_of n

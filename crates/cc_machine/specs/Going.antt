@@ -1,8 +1,7 @@
 -- How the run of a plain file goes down the instructions of `main`, and where it pauses.
-use Rattle.std.specs.Prelude.{◌≡◌, ℕ, zero, suc, ◌+◌, ◌==◌, Bool, true, false, ℤ, List, [], ◌∷◌, ◌++◌, length, Option, Some, None, Result, Ok, Err, slice_get, slice_set}
+use Rattle.std.specs.Prelude.{ℕ, zero, suc, ◌+◌, ◌==◌, Bool, true, false, ℤ, List, [], ◌∷◌, ◌++◌, length, Option, Some, None, Result, Ok, Err, slice_get, slice_set}
 use Rattle.cc_meaning.specs.declared.report.StopCause.{StopCause}
 use Rattle.cc_meaning.specs.declared.report.StopCause.TheVariants as cause
-use Rattle.cc_meaning.specs.declared.report.Ending.{Ending}
 use Rattle.cc_meaning.specs.declared.report.Ending.TheVariants as ending
 use Rattle.cc_meaning_run.specs.Acts.{less_by}
 use Rattle.cc_meaning_run.specs.Instructions.{line_of}

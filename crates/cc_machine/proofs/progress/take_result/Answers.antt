@@ -1,4 +1,4 @@
-use Rattle.cc_machine.proofs.Steps.{none_left, one_taken}
+use Rattle.cc_machine.proofs.Steps.{none_left}
 use Rattle.cc_machine.proofs.progress.take_result.Goals as goal
 
 pub returns-then-progress-eq0-clause-does : goal.returns-then-progress-eq0-clause-does

@@ -1,4 +1,4 @@
-use Rattle.std.proofs.Common.{◌≡◌, ◌∙◌, rules}
+use Rattle.std.proofs.Common.{◌∙◌, rules}
 use Rattle.cc_machine.proofs.Stages.{never_enters, reports}
 use Rattle.cc_machine.proofs.running.run.Goals as goal
 
