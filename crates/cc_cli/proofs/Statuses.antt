@@ -1,5 +1,5 @@
 -- What each status says, of a run.
-use Rattle.std.proofs.Common.{inl, inr, ◌≡◌, ◌≢◌, ◌⊎◌, ℕ, ◌<◌, ◌≤◌, List, [], length, Option, Some, None, refl, sym, ap, subst, ◌∙◌, arith}
+use Rattle.std.proofs.Common.{inl, inr, ◌≡◌, ◌≢◌, ◌⊎◌, ℕ, ◌<◌, ◌≤◌, List, [], ◌∷◌, length, Option, Some, None, refl, sym, ap, subst, ◌∙◌, arith}
 use Rattle.std.specs.Prelude.{IfSome, IsSomeAnd}
 use Rattle.std.proofs.lemmas.List.{append-nil}
 use Rattle.cc_meaning.specs.declared.report.Report.{Report}
@@ -9,7 +9,9 @@ use Rattle.cc_outside.specs.Shelves.{Files, Tells, IsFile, IsAbsent, IsLonger}
 use Rattle.cc_outside.specs.Sinks.{Pipe}
 use Rattle.cc_plan.specs.declared.plan.Plan.{Plan}
 use Rattle.cc_plan.specs.Carrying.{AsPlanned, Ends, Wrote}
+use Rattle.cc_meaning.specs.declared.travel.Travel.{Travel}
 use Rattle.cc_meaning_lines.specs.Lines.{returned_line}
+use Rattle.cc_meaning_lines.specs.Travel.{ended_status}
 use Rattle.cc_meaning_plain.specs.declared.plain.Plain.{Plain}
 use Rattle.cc_meaning_plain.specs.Tables.{longest_file}
 use Rattle.cc_meaning_plain.specs.Plain.{IsPlain}
@@ -17,8 +19,10 @@ use Rattle.cc_cli.specs.declared.fault.Fault.{Fault}
 use Rattle.cc_cli.specs.declared.fault.Fault.TheVariants as faults
 use Rattle.cc_cli.specs.Faults.{status_of, fault_plan}
 use Rattle.cc_cli.specs.Plans.{file_named, IsNotPlain, Returns, ran_plan, RunPlan, failed, absent, too_large, was_read}
-use Rattle.cc_cli.specs.Runs.{Outside, CallPlan, WordsPlan, Runs}
-use Rattle.cc_cli.specs.Statuses.{DueBy, Says, RunsFile, Statuses}
+use Rattle.cc_cli.specs.Offloading.{Names, offload_named, OffloadedPlan}
+use Rattle.cc_cli.specs.Runs.{Outside, sources, CallPlan, WordsPlan, Runs}
+use Rattle.cc_cli.specs.Statuses.{DueBy, Says, RunsFile, OffloadsFiles, Statuses, Transparent}
+use Rattle.cc_cli.proofs.Outcomes.{is_transparent, Outcome, files_failed, file_absent, file_too_large, files_refused, file_ran, no_memory, outcome, ended_so, offloads_files}
 
 some_same : {A : Type 0} {a b : A} → Some a ≡ Some b → a ≡ b
 some_same e = cc
@@ -87,6 +91,16 @@ all_told (Some files) name Q f = f (files name)
 long_file : (s : ℕ) → s ≡ 74 → (file : Option (List ℕ)) → IsSomeAnd file (λ bytes. longest_file < length bytes) → DueBy file s
 long_file s h (Some bytes) l = due_long (Some bytes) s bytes refl h l
 long_file s h None l = absurd l
+
+-- words that offload name no file to run
+no_run_named : (words : List (List ℕ)) (names : Names) → offload_named words ≡ Some names → file_named words ≡ None
+no_run_named [] names e = refl
+no_run_named (command ∷ []) names e = refl
+no_run_named (command ∷ file ∷ []) names e = absurd (none_some names e)
+  where
+    none_some : (names : Names) → None ≡ Some names → ⊥
+    none_some names e = cc
+no_run_named (command ∷ file ∷ third ∷ rest) names e = refl
 
 -- ---- the ends of a plan
 
@@ -196,24 +210,27 @@ module _ (plan : Plan) (old new : Outside) (s : ℕ) where
 
   -- ---- all plans
 
-  -- the plan is that of a fault, or of a run that returned
-  abbrev IsFaultOrRan : Type 0
-  IsFaultOrRan = ((fault : Fault) × (name : List ℕ) × (plan ≡ fault_plan fault name)) ⊎ ((report : Report) × (plan ≡ ran_plan report))
+  -- the plan is that of a fault, of a run that returned, or of one that was offloaded
+  abbrev IsKind : Type 0
+  IsKind = ((fault : Fault) × (name : List ℕ) × (plan ≡ fault_plan fault name)) ⊎ (((report : Report) × (plan ≡ ran_plan report)) ⊎ ((report : Report) × (travel : Travel) × OffloadedPlan report travel plan))
 
-  run_kind : (name : List ℕ) → RunPlan old.known old.counts name new.counts plan → IsFaultOrRan
+  -- an offloaded run returned or stopped
+  offloaded_status : (report : Report) (travel : Travel) → OffloadedPlan report travel plan → Planned → (s ≡ 0) ⊎ (s ≡ 2)
+  offloaded_status report travel o a = by (ended_so report.ending o.ended o.is_ended)
+    where
+      same : s ≡ ended_status report.ending
+      same = a.status ∙ ap (λ (p : Plan). p.status) o.is_plan
+
+      by : (ended_status report.ending ≡ 0) ⊎ (ended_status report.ending ≡ 2) → (s ≡ 0) ⊎ (s ≡ 2)
+      by (inl e) = inl (same ∙ e)
+      by (inr e) = inr (same ∙ e)
+
+  run_kind : (name : List ℕ) → RunPlan old.known old.counts name new.counts plan → IsKind
   run_kind name (failed h e) = inl (faults.ReadFault, name, e)
   run_kind name (absent h r e) = inl (faults.Absent, name, e)
   run_kind name (too_large h r e) = inl (faults.TooLarge, name, e)
   run_kind name (was_read bytes is l (inl n)) = inl (faults.NotBuilt, name, n.1)
-  run_kind name (was_read bytes is l (inr d)) = inr (d.0, d.2)
-
-  call_kind : (call : Option (List ℕ)) → CallPlan call old.known old.counts new.counts plan → IsFaultOrRan
-  call_kind None h = inl (faults.Usage, [], h.0)
-  call_kind (Some name) h = run_kind name h
-
-  words_kind : (words : List (List ℕ)) → WordsPlan words old.known old.counts new.counts plan → IsFaultOrRan
-  words_kind words (inl h) = call_kind (file_named words) h
-  words_kind words (inr e) = inl (faults.Memory, [], e)
+  run_kind name (was_read bytes is l (inr d)) = inr (inl (d.0, d.2))
 
   no_fault_is_72 : (fault : Fault) → status_of fault ≢ 72
   no_fault_is_72 faults.Usage e = omega (arith, e)
@@ -223,23 +240,47 @@ module _ (plan : Plan) (old new : Outside) (s : ℕ) where
   no_fault_is_72 faults.TooLarge e = omega (arith, e)
   no_fault_is_72 faults.NotBuilt e = omega (arith, e)
 
-  planned_not_72 : IsFaultOrRan → Planned → s ≢ 72
+  no_fault_is_2 : (fault : Fault) → status_of fault ≢ 2
+  no_fault_is_2 faults.Usage e = omega (arith, e)
+  no_fault_is_2 faults.Memory e = omega (arith, e)
+  no_fault_is_2 faults.ReadFault e = omega (arith, e)
+  no_fault_is_2 faults.Absent e = omega (arith, e)
+  no_fault_is_2 faults.TooLarge e = omega (arith, e)
+  no_fault_is_2 faults.NotBuilt e = omega (arith, e)
+
+  -- a status that is 0 or 2 is no other
+  neither : (k : ℕ) → (s ≡ 0) ⊎ (s ≡ 2) → s ≡ k → k ≢ 0 → k ≢ 2 → ⊥
+  neither k (inl z) e n m = n (sym e ∙ z)
+  neither k (inr z) e n m = m (sym e ∙ z)
+
+  planned_not_72 : IsKind → Planned → s ≢ 72
   planned_not_72 (inl f) a e = no_fault_is_72 f.0 (sym (fault_status f.0 f.1 f.2 a) ∙ e)
-  planned_not_72 (inr r) a e = omega (arith, ran_status r.0 r.1 a, e)
+  planned_not_72 (inr (inl r)) a e = omega (arith, ran_status r.0 r.1 a, e)
+  planned_not_72 (inr (inr o)) a e = neither 72 (offloaded_status o.0 o.1 o.2 a) e (λ h. omega (arith, h)) (λ h. omega (arith, h))
 
-  quiet_by : IsFaultOrRan → Carried → s ≢ 0 → s ≢ 72 → new.out.text ≡ old.out.text
-  quiet_by (inl f) (inl a) z m = fault_quiet f.0 f.1 f.2 a
-  quiet_by (inr r) (inl a) z m = absurd (z (ran_status r.0 r.1 a))
-  quiet_by k (inr (inl u)) z m = u.out
-  quiet_by k (inr (inr (inl o))) z m = absurd (m o.status)
-  quiet_by k (inr (inr (inr o))) z m = absurd (m o.status)
+  quiet_by : IsKind → Carried → s ≢ 0 → s ≢ 2 → s ≢ 72 → new.out.text ≡ old.out.text
+  quiet_by (inl f) (inl a) z t m = fault_quiet f.0 f.1 f.2 a
+  quiet_by (inr (inl r)) (inl a) z t m = absurd (z (ran_status r.0 r.1 a))
+  quiet_by (inr (inr o)) (inl a) z t m = absurd (by (offloaded_status o.0 o.1 o.2 a))
+    where
+      by : (s ≡ 0) ⊎ (s ≡ 2) → ⊥
+      by (inl e) = z e
+      by (inr e) = t e
+  quiet_by k (inr (inl u)) z t m = u.out
+  quiet_by k (inr (inr (inl o))) z t m = absurd (m o.status)
+  quiet_by k (inr (inr (inr o))) z t m = absurd (m o.status)
 
-  others_by : IsFaultOrRan → Carried → (s ≡ 0) ⊎ ((s ≡ 72) ⊎ ((fault : Fault) × (s ≡ status_of fault)))
-  others_by (inl f) (inl a) = inr (inr (f.0, fault_status f.0 f.1 f.2 a))
-  others_by (inr r) (inl a) = inl (ran_status r.0 r.1 a)
-  others_by k (inr (inl u)) = inr (inr (faults.Memory, u.status))
-  others_by k (inr (inr (inl o))) = inr (inl o.status)
-  others_by k (inr (inr (inr o))) = inr (inl o.status)
+  others_by : IsKind → Carried → (s ≡ 0) ⊎ ((s ≡ 2) ⊎ ((s ≡ 72) ⊎ ((fault : Fault) × (s ≡ status_of fault))))
+  others_by (inl f) (inl a) = inr (inr (inr (f.0, fault_status f.0 f.1 f.2 a)))
+  others_by (inr (inl r)) (inl a) = inl (ran_status r.0 r.1 a)
+  others_by (inr (inr o)) (inl a) = by (offloaded_status o.0 o.1 o.2 a)
+    where
+      by : (s ≡ 0) ⊎ (s ≡ 2) → (s ≡ 0) ⊎ ((s ≡ 2) ⊎ ((s ≡ 72) ⊎ ((fault : Fault) × (s ≡ status_of fault))))
+      by (inl e) = inl e
+      by (inr e) = inr (inl e)
+  others_by k (inr (inl u)) = inr (inr (inr (faults.Memory, u.status)))
+  others_by k (inr (inr (inl o))) = inr (inr (inl o.status))
+  others_by k (inr (inr (inr o))) = inr (inr (inl o.status))
 
   -- only the plan for want of memory has the status 70
   is_memory : (fault : Fault) → status_of fault ≡ 70 → fault ≡ faults.Memory
@@ -250,9 +291,10 @@ module _ (plan : Plan) (old new : Outside) (s : ℕ) where
   is_memory faults.TooLarge e = absurd (omega (arith, e))
   is_memory faults.NotBuilt e = absurd (omega (arith, e))
 
-  memory_by : IsFaultOrRan → Carried → s ≡ 70 → (new.notes.text ≡ old.notes.text) ⊎ Says faults.Memory [] old new
+  memory_by : IsKind → Carried → s ≡ 70 → (new.notes.text ≡ old.notes.text) ⊎ Says faults.Memory [] old new
   memory_by (inl f) (inl a) z = inr (subst (λ (fault : Fault). Says fault f.1 old new) (is_memory f.0 (sym (fault_status f.0 f.1 f.2 a) ∙ z)) (fault_says f.0 f.1 f.2 a))
-  memory_by (inr r) (inl a) z = absurd (omega (arith, ran_status r.0 r.1 a, z))
+  memory_by (inr (inl r)) (inl a) z = absurd (omega (arith, ran_status r.0 r.1 a, z))
+  memory_by (inr (inr o)) (inl a) z = absurd (neither 70 (offloaded_status o.0 o.1 o.2 a) z (λ h. omega (arith, h)) (λ h. omega (arith, h)))
   memory_by k (inr (inl u)) z = inl u.notes
   memory_by k (inr (inr (inl o))) z = absurd (omega (arith, o.status, z))
   memory_by k (inr (inr (inr o))) z = absurd (omega (arith, o.status, z))
@@ -264,27 +306,13 @@ module _ (plan : Plan) (old new : Outside) (s : ℕ) where
   no_run_is_usage name (was_read bytes is l (inl n)) a z = omega (arith, fault_status faults.NotBuilt name n.1 a, z)
   no_run_is_usage name (was_read bytes is l (inr d)) a z = omega (arith, ran_status d.0 d.2 a, z)
 
-  usage_call : (call : Option (List ℕ)) → CallPlan call old.known old.counts new.counts plan → Planned → s ≡ 64 → (call ≡ None) × (new.counts ≡ old.counts) × Says faults.Usage [] old new
-  usage_call None h a z = (refl, h.1, fault_says faults.Usage [] h.0 a)
-  usage_call (Some name) h a z = absurd (no_run_is_usage name h a z)
-
-  usage_by : (words : List (List ℕ)) → WordsPlan words old.known old.counts new.counts plan → Planned → s ≡ 64 → (file_named words ≡ None) × (new.counts ≡ old.counts) × Says faults.Usage [] old new
-  usage_by words (inl h) a z = usage_call (file_named words) h a z
-  usage_by words (inr e) a z = absurd (omega (arith, fault_status faults.Memory [] e a, z))
-
-  no_call : (call : Option (List ℕ)) → call ≡ None → CallPlan call old.known old.counts new.counts plan → plan ≡ fault_plan faults.Usage []
-  no_call None e h = h.0
-  no_call (Some name) e h = absurd (some_none name e)
-    where
-      some_none : (name : List ℕ) → Some name ≡ None → ⊥
-      some_none name e = cc
-
-  no_command_by : (words : List (List ℕ)) → WordsPlan words old.known old.counts new.counts plan → Carried → file_named words ≡ None → (s ≡ 64) ⊎ ((s ≡ 70) ⊎ (s ≡ 72))
-  no_command_by words (inl h) (inl a) n = inl (fault_status faults.Usage [] (no_call (file_named words) n h) a)
-  no_command_by words (inr e) (inl a) n = inr (inl (fault_status faults.Memory [] e a))
-  no_command_by words k (inr (inl u)) n = inr (inl u.status)
-  no_command_by words k (inr (inr (inl o))) n = inr (inr o.status)
-  no_command_by words k (inr (inr (inr o))) n = inr (inr o.status)
+  -- a run that isn't offloaded doesn't stop
+  no_run_stops : (name : List ℕ) → RunPlan old.known old.counts name new.counts plan → Planned → s ≡ 2 → ⊥
+  no_run_stops name (failed h e) a z = omega (arith, fault_status faults.ReadFault name e a, z)
+  no_run_stops name (absent h r e) a z = omega (arith, fault_status faults.Absent name e a, z)
+  no_run_stops name (too_large h r e) a z = omega (arith, fault_status faults.TooLarge name e a, z)
+  no_run_stops name (was_read bytes is l (inl n)) a z = omega (arith, fault_status faults.NotBuilt name n.1 a, z)
+  no_run_stops name (was_read bytes is l (inr d)) a z = omega (arith, ran_status d.0 d.2 a, z)
 
   memory_runs : (name : List ℕ) → plan ≡ fault_plan faults.Memory [] → Carried → RunsFile name old s new
   memory_runs name e c = record {
@@ -305,31 +333,118 @@ module _ (plan : Plan) (old new : Outside) (s : ℕ) where
       not_now : (k : ℕ) → s ≡ k → Carried → k ≢ 70 → k ≢ 72 → ⊥
       not_now k z c n m = n (sym z ∙ fault_status faults.Memory [] e (planned_at k c z n m))
 
-  call_runs : (call : Option (List ℕ)) (name : List ℕ) → call ≡ Some name → CallPlan call old.known old.counts new.counts plan → Carried → RunsFile name old s new
-  call_runs None name e h c = absurd (none_some name e)
-    where
-      none_some : (name : List ℕ) → None ≡ Some name → ⊥
-      none_some name e = cc
-  call_runs (Some other) name e h c = runs_file name (subst (λ (n : List ℕ). RunPlan old.known old.counts n new.counts plan) (some_same e) h) c
+  module _ (untouched trusted : Type 0) where
+    abbrev Call : Option (List ℕ) → Option Names → Type 0
+    Call name names = CallPlan name names (sources old) (sources new) untouched trusted plan
 
-  words_run : (words : List (List ℕ)) (name : List ℕ) → file_named words ≡ Some name → WordsPlan words old.known old.counts new.counts plan → Carried → RunsFile name old s new
-  words_run words name e (inl h) c = call_runs (file_named words) name e h c
-  words_run words name e (inr m) c = memory_runs name m c
+    outcome_kind : (names : Names) → Outcome names plan old new untouched trusted → IsKind
+    outcome_kind names (files_failed name limit next rose e u) = inl (faults.ReadFault, name, e)
+    outcome_kind names (file_absent name limit next gone rose e u) = inl (faults.Absent, name, e)
+    outcome_kind names (file_too_large name limit next long rose e u) = inl (faults.TooLarge, name, e)
+    outcome_kind names (files_refused is e u) = inl (faults.NotBuilt, [], e)
+    outcome_kind names (file_ran file plain text moved h0 h1 h2 h3 h4 o) = inr (inr (o.report, o.travel, o.is_plan))
+    outcome_kind names (no_memory e) = inl (faults.Memory, [], e)
 
-  all_statuses : (words : List (List ℕ)) → WordsPlan words old.known old.counts new.counts plan → Carried → Statuses words old s new
-  all_statuses words w c = record {
-    usage = λ z. usage_by words w (planned_at 64 c z (λ e. omega (arith, e)) (λ e. omega (arith, e))) z;
-    no_command = no_command_by words w c;
-    run = λ name e. words_run words name e w c;
-    memory = memory_by (words_kind words w) c;
-    lost = lost_by c (planned_not_72 (words_kind words w));
-    no_output = quiet_by (words_kind words w) c;
-    others = others_by (words_kind words w) c;
-  }
+    call_kind : (name : Option (List ℕ)) (names : Option Names) → Call name names → IsKind
+    call_kind (Some name) names h = run_kind name h.0
+    call_kind None (Some names) h = outcome_kind names (outcome names plan old new untouched trusted h)
+    call_kind None None h = inl (faults.Usage, [], h.0)
 
-pub statuses : (words : List (List ℕ)) (old new : Outside) (s : ℕ) → Runs words old s new → Statuses words old s new
-statuses words old new s runs = all_statuses runs.0 old new s words runs.1 runs.2
+    words_kind : (words : List (List ℕ)) → WordsPlan words (sources old) (sources new) untouched trusted plan → IsKind
+    words_kind words (inl h) = call_kind (file_named words) (offload_named words) h
+    words_kind words (inr e) = inl (faults.Memory, [], e)
+
+    no_outcome_is_usage : (names : Names) → Outcome names plan old new untouched trusted → Planned → s ≡ 64 → ⊥
+    no_outcome_is_usage names (files_failed name limit next rose e u) a z = omega (arith, fault_status faults.ReadFault name e a, z)
+    no_outcome_is_usage names (file_absent name limit next gone rose e u) a z = omega (arith, fault_status faults.Absent name e a, z)
+    no_outcome_is_usage names (file_too_large name limit next long rose e u) a z = omega (arith, fault_status faults.TooLarge name e a, z)
+    no_outcome_is_usage names (files_refused is e u) a z = omega (arith, fault_status faults.NotBuilt [] e a, z)
+    no_outcome_is_usage names (file_ran file plain text moved h0 h1 h2 h3 h4 o) a z = neither 64 (offloaded_status o.report o.travel o.is_plan a) z (λ h. omega (arith, h)) (λ h. omega (arith, h))
+    no_outcome_is_usage names (no_memory e) a z = omega (arith, fault_status faults.Memory [] e a, z)
+
+    usage_call : (name : Option (List ℕ)) (names : Option Names) → Call name names → Planned → s ≡ 64
+        → (name ≡ None) × (names ≡ None) × (new.counts ≡ old.counts) × untouched × Says faults.Usage [] old new
+    usage_call (Some name) names h a z = absurd (no_run_is_usage name h.0 a z)
+    usage_call None (Some names) h a z = absurd (no_outcome_is_usage names (outcome names plan old new untouched trusted h) a z)
+    usage_call None None h a z = (refl, refl, h.1, h.2, fault_says faults.Usage [] h.0 a)
+
+    usage_by : (words : List (List ℕ)) → WordsPlan words (sources old) (sources new) untouched trusted plan → Planned → s ≡ 64
+        → (file_named words ≡ None) × (offload_named words ≡ None) × (new.counts ≡ old.counts) × untouched × Says faults.Usage [] old new
+    usage_by words (inl h) a z = usage_call (file_named words) (offload_named words) h a z
+    usage_by words (inr e) a z = absurd (omega (arith, fault_status faults.Memory [] e a, z))
+
+    no_call : (name : Option (List ℕ)) (names : Option Names) → name ≡ None → names ≡ None → Call name names → plan ≡ fault_plan faults.Usage []
+    no_call (Some name) names e f h = absurd (some_none name e)
+      where
+        some_none : (name : List ℕ) → Some name ≡ None → ⊥
+        some_none name e = cc
+    no_call None (Some names) e f h = absurd (some_none names f)
+      where
+        some_none : (names : Names) → Some names ≡ None → ⊥
+        some_none names e = cc
+    no_call None None e f h = h.0
+
+    no_command_by : (words : List (List ℕ)) → WordsPlan words (sources old) (sources new) untouched trusted plan → Carried → file_named words ≡ None → offload_named words ≡ None → (s ≡ 64) ⊎ ((s ≡ 70) ⊎ (s ≡ 72))
+    no_command_by words (inl h) (inl a) n m = inl (fault_status faults.Usage [] (no_call (file_named words) (offload_named words) n m h) a)
+    no_command_by words (inr e) (inl a) n m = inr (inl (fault_status faults.Memory [] e a))
+    no_command_by words k (inr (inl u)) n m = inr (inl u.status)
+    no_command_by words k (inr (inr (inl o))) n m = inr (inr o.status)
+    no_command_by words k (inr (inr (inr o))) n m = inr (inr o.status)
+
+    call_runs : (call : Option (List ℕ)) (names : Option Names) (name : List ℕ) → call ≡ Some name → Call call names → Carried → RunsFile name old s new
+    call_runs None names name e h c = absurd (none_some name e)
+      where
+        none_some : (name : List ℕ) → None ≡ Some name → ⊥
+        none_some name e = cc
+    call_runs (Some other) names name e h c = runs_file name (subst (λ (n : List ℕ). RunPlan old.known old.counts n new.counts plan) (some_same e) h.0) c
+
+    words_run : (words : List (List ℕ)) (name : List ℕ) → file_named words ≡ Some name → WordsPlan words (sources old) (sources new) untouched trusted plan → Carried → RunsFile name old s new
+    words_run words name e (inl h) c = call_runs (file_named words) (offload_named words) name e h c
+    words_run words name e (inr m) c = memory_runs name m c
+
+    call_offloads : (call : Option (List ℕ)) (found : Option Names) (names : Names) → call ≡ None → found ≡ Some names → Call call found → Outcome names plan old new untouched trusted
+    call_offloads (Some name) found names e f h = absurd (some_none name e)
+      where
+        some_none : (name : List ℕ) → Some name ≡ None → ⊥
+        some_none name e = cc
+    call_offloads None None names e f h = absurd (none_some names f)
+      where
+        none_some : (names : Names) → None ≡ Some names → ⊥
+        none_some names f = cc
+    call_offloads None (Some other) names e f h = subst (λ (n : Names). Outcome n plan old new untouched trusted) (some_same f) (outcome other plan old new untouched trusted h)
+
+    words_outcome : (words : List (List ℕ)) (names : Names) → offload_named words ≡ Some names → WordsPlan words (sources old) (sources new) untouched trusted plan → Outcome names plan old new untouched trusted
+    words_outcome words names e (inl h) = call_offloads (file_named words) (offload_named words) names (no_run_named words names e) e h
+    words_outcome words names e (inr m) = no_memory m
+
+    stopped_call : (name : Option (List ℕ)) (found : Option Names) → Call name found → Planned → s ≡ 2 → (names : Names) × (found ≡ Some names)
+    stopped_call (Some name) found h a z = absurd (no_run_stops name h.0 a z)
+    stopped_call None (Some names) h a z = (names, refl)
+    stopped_call None None h a z = absurd (omega (arith, fault_status faults.Usage [] h.0 a, z))
+
+    stopped_by : (words : List (List ℕ)) → WordsPlan words (sources old) (sources new) untouched trusted plan → Planned → s ≡ 2 → (names : Names) × (offload_named words ≡ Some names)
+    stopped_by words (inl h) a z = stopped_call (file_named words) (offload_named words) h a z
+    stopped_by words (inr e) a z = absurd (omega (arith, fault_status faults.Memory [] e a, z))
+
+    all_statuses : (words : List (List ℕ)) → WordsPlan words (sources old) (sources new) untouched trusted plan → Carried → Statuses words old s new untouched trusted
+    all_statuses words w c = record {
+      usage = λ z. usage_by words w (planned_at 64 c z (λ e. omega (arith, e)) (λ e. omega (arith, e))) z;
+      no_command = no_command_by words w c;
+      run = λ name e. words_run words name e w c;
+      offload = λ names e. offloads_files names plan old new untouched trusted s (words_outcome words names e w) c;
+      memory = memory_by (words_kind words w) c;
+      lost = lost_by c (planned_not_72 (words_kind words w));
+      no_output = quiet_by (words_kind words w) c;
+      stopped = λ z. stopped_by words w (planned_at 2 c z (λ e. omega (arith, e)) (λ e. omega (arith, e))) z;
+      others = others_by (words_kind words w) c;
+    }
+
+pub statuses : (words : List (List ℕ)) (old new : Outside) (s : ℕ) (untouched trusted : Type 0) → Runs words old s new untouched trusted → Statuses words old s new untouched trusted
+statuses words old new s untouched trusted runs = all_statuses runs.0 old new s untouched trusted words runs.1 runs.2
 
 -- there is no memory even for a plan, and nothing is done
-pub no_plan : (words : List (List ℕ)) (old new : Outside) → new.out ≡ old.out → new.notes ≡ old.notes → Runs words old 70 new
-no_plan words old new o n = (fault_plan faults.Memory [], inr refl, inr (inl (record { status = refl; out = ap (λ (p : Pipe). p.text) o; notes = ap (λ (p : Pipe). p.text) n })))
+pub no_plan : (words : List (List ℕ)) (old new : Outside) (untouched trusted : Type 0) → new.out ≡ old.out → new.notes ≡ old.notes → Runs words old 70 new untouched trusted
+no_plan words old new untouched trusted o n = (fault_plan faults.Memory [], inr refl, inr (inl (record { status = refl; out = ap (λ (p : Pipe). p.text) o; notes = ap (λ (p : Pipe). p.text) n })))
+
+pub transparent : (words : List (List ℕ)) (old new : Outside) (s : ℕ) (untouched trusted : Type 0) → Runs words old s new untouched trusted → (names : Names) → offload_named words ≡ Some names → trusted → Transparent names old s new
+transparent words old new s untouched trusted runs names e h = is_transparent names old new s untouched trusted ((statuses words old new s untouched trusted runs).offload names e) h

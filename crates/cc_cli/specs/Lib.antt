@@ -1,4 +1,5 @@
 pub mod Faults
 pub mod Plans
+pub mod Offloading
 pub mod Runs
 pub mod Statuses

@@ -1,10 +1,15 @@
 -- What each status of a run of the program says.
-use Rattle.std.specs.Prelude.{◌≡◌, ◌≢◌, ◌⊎◌, ℕ, ◌<◌, ◌≤◌, List, [], length, Option, Some, None}
+use Rattle.std.specs.Prelude.{◌≡◌, ◌≢◌, ◌⊎◌, ℕ, ◌<◌, ◌≤◌, List, [], ◌++◌, length, Option, Some, None}
 use Rattle.cc_meaning.specs.declared.report.Report.{Report}
 use Rattle.cc_outside.specs.Counting.{Rose}
-use Rattle.cc_outside.specs.Shelves.{Tells, IsFile, IsAbsent, IsLonger}
+use Rattle.cc_outside.specs.Shelves.{Known, Tells, IsFile, IsAbsent, IsLonger}
 use Rattle.cc_plan.specs.Carrying.{Wrote}
+use Rattle.cc_meaning.specs.declared.travel.Travel.{Travel}
 use Rattle.cc_meaning_lines.specs.Lines.{returned_line}
+use Rattle.cc_meaning_lines.specs.Travel.{ended_line, ended_status, travel_line}
+use Rattle.cc_meaning_clone.specs.Hello.{no_script}
+use Rattle.cc_partition.specs.Partition.{IsPartition}
+use Rattle.cc_device.specs.Travelling.{Offloads}
 use Rattle.cc_meaning_plain.specs.declared.plain.Plain.{Plain}
 use Rattle.cc_meaning_plain.specs.Tables.{longest_file}
 use Rattle.cc_meaning_plain.specs.Plain.{IsPlain}
@@ -12,6 +17,7 @@ use Rattle.cc_cli.specs.declared.fault.Fault.{Fault}
 use Rattle.cc_cli.specs.declared.fault.Fault.TheVariants as faults
 use Rattle.cc_cli.specs.Faults.{status_of, line_of}
 use Rattle.cc_cli.specs.Plans.{file_named, IsNotPlain, Returns}
+use Rattle.cc_cli.specs.Offloading.{Names, offload_named, longest_text, job_of, MovesNoneOf}
 use Rattle.cc_cli.specs.Runs.{Outside}
 
 -- the status is the one that is due, but where there was no memory, reading failed or a sink failed
@@ -41,14 +47,78 @@ pub record RunsFile (name : List ℕ) (old : Outside) (s : ℕ) (new : Outside) 
   pub absent : s ≡ 73 → IsAbsent old.known name × Rose old.counts.misses new.counts.misses × Says faults.Absent name old new
   pub too_large : s ≡ 74 → IsLonger old.known name longest_file × Rose old.counts.misses new.counts.misses × Says faults.TooLarge name old new
 
-pub record Statuses (words : List (List ℕ)) (old : Outside) (s : ℕ) (new : Outside) : Type 0 where
-  -- the words are no command, and the shelf was left alone
-  pub usage : s ≡ 64 → (file_named words ≡ None) × (new.counts ≡ old.counts) × Says faults.Usage [] old new
-  pub no_command : file_named words ≡ None → (s ≡ 64) ⊎ ((s ≡ 70) ⊎ (s ≡ 72))
+-- ---- `offload FILE SCRIPT PARTITION PLACE`
+
+-- this file is the next to be read, with this limit: those before it were read, and are as they must be
+pub data NextRead (names : Names) (known : Known) (name : List ℕ) (limit : ℕ) : Type 0 where
+  the_file : name ≡ names.file → limit ≡ longest_file → NextRead names known name limit
+  the_script : (file : List ℕ) (plain : Plain) → IsFile known names.file file → IsPlain file plain → name ≡ names.script → limit ≡ longest_text → NextRead names known name limit
+  the_partition : (file : List ℕ) (plain : Plain) → IsFile known names.file file → IsPlain file plain → IsFile known names.script no_script → name ≡ names.partition → limit ≡ longest_text →
+      NextRead names known name limit
+
+-- this was read and isn't as it must be: the file is no plain file, the script isn't the one that there is, or the partition says nothing of the file
+pub data IsRefused (names : Names) (known : Known) : Type 0 where
+  by_file : (file : List ℕ) → IsFile known names.file file → length file ≤ longest_file → IsNotPlain file → IsRefused names known
+  by_script : (file : List ℕ) (plain : Plain) (script : List ℕ) → IsFile known names.file file → IsPlain file plain → IsFile known names.script script → length script ≤ longest_text →
+      script ≢ no_script → IsRefused names known
+  by_partition : (file : List ℕ) (plain : Plain) (text : List ℕ) → IsFile known names.file file → IsPlain file plain → IsFile known names.script no_script →
+      IsFile known names.partition text → length text ≤ longest_text → MovesNoneOf plain text → IsRefused names known
+
+-- the file ran, and this was written
+pub record RanThere (names : Names) (old : Outside) (s : ℕ) (new : Outside) (untouched trusted : Type 0) : Type 0 where
+  pub file : List ℕ
+  pub plain : Plain
+  pub text : List ℕ
+  pub moved : Option ℕ
+  pub report : Report
+  pub travel : Travel
+  pub ended : List ℕ
+  pub is_file : IsFile old.known names.file file
+  pub is_plain : IsPlain file plain
+  pub is_script : IsFile old.known names.script no_script
+  pub is_text : IsFile old.known names.partition text
+  pub is_partition : IsPartition plain text moved
+  -- by what was sent and got on the link
+  pub offloads : Offloads plain moved (job_of file names.place) report travel old.link old.calls new.link new.calls untouched
+  pub status : s ≡ ended_status report.ending
+  pub is_ended : ended_line report.ending ≡ Some ended
+  pub out : Wrote report.out old.out new.out
+  pub notes : Wrote (ended ++ travel_line travel) old.notes new.notes
+  pub transparent : trusted → Returns file report
+
+pub record OffloadsFiles (names : Names) (old : Outside) (s : ℕ) (new : Outside) (untouched trusted : Type 0) : Type 0 where
+  -- it ran to its end, or stopped; no plain file throws
+  pub ran : (s ≡ 0) ⊎ (s ≡ 2) → RanThere names old s new untouched trusted
+  pub never_throws : s ≢ 1
+  pub refused : s ≡ 80 → IsRefused names old.known × Says faults.NotBuilt [] old new × untouched
+  pub failed : s ≡ 71 → (name : List ℕ) × (limit : ℕ) × NextRead names old.known name limit × Rose old.counts.faults new.counts.faults × Says faults.ReadFault name old new × untouched
+  pub absent : s ≡ 73 → (name : List ℕ) × (limit : ℕ) × NextRead names old.known name limit × IsAbsent old.known name × Rose old.counts.misses new.counts.misses
+      × Says faults.Absent name old new × untouched
+  pub too_large : s ≡ 74 → (name : List ℕ) × (limit : ℕ) × NextRead names old.known name limit × IsLonger old.known name limit × Rose old.counts.misses new.counts.misses
+      × Says faults.TooLarge name old new × untouched
+
+-- ---- all commands
+
+pub record Statuses (words : List (List ℕ)) (old : Outside) (s : ℕ) (new : Outside) (untouched trusted : Type 0) : Type 0 where
+  -- the words are no command, and the shelf and the link were left alone
+  pub usage : s ≡ 64 → (file_named words ≡ None) × (offload_named words ≡ None) × (new.counts ≡ old.counts) × untouched × Says faults.Usage [] old new
+  pub no_command : file_named words ≡ None → offload_named words ≡ None → (s ≡ 64) ⊎ ((s ≡ 70) ⊎ (s ≡ 72))
   pub run : (name : List ℕ) → file_named words ≡ Some name → RunsFile name old s new
+  pub offload : (names : Names) → offload_named words ≡ Some names → OffloadsFiles names old s new untouched trusted
   -- no memory: nothing is on out, and on notes nothing or the line that says so
   pub memory : s ≡ 70 → (new.notes.text ≡ old.notes.text) ⊎ Says faults.Memory [] old new
   -- a sink failed
   pub lost : s ≡ 72 → Rose old.out.faults new.out.faults ⊎ Rose old.notes.faults new.notes.faults
-  pub no_output : s ≢ 0 → s ≢ 72 → new.out.text ≡ old.out.text
-  pub others : (s ≡ 0) ⊎ ((s ≡ 72) ⊎ ((fault : Fault) × (s ≡ status_of fault)))
+  pub no_output : s ≢ 0 → s ≢ 2 → s ≢ 72 → new.out.text ≡ old.out.text
+  -- `run` never stops
+  pub stopped : s ≡ 2 → (names : Names) × (offload_named words ≡ Some names)
+  pub others : (s ≡ 0) ⊎ ((s ≡ 2) ⊎ ((s ≡ 72) ⊎ ((fault : Fault) × (s ≡ status_of fault))))
+
+-- ---- what offloading is for
+
+-- Over a fresh link that tells that it gives a front of a clone's answers, a program that ran wrote what the run on one heap writes, then how it ended, and then
+-- one line on the travel; and it returned.
+pub record Transparent (names : Names) (old : Outside) (s : ℕ) (new : Outside) : Type 0 where
+  pub done : s ≡ 0 → (file : List ℕ) × (report : Report) × (travel : Travel) × IsFile old.known names.file file × Returns file report
+      × Wrote report.out old.out new.out × Wrote (returned_line ++ travel_line travel) old.notes new.notes
+  pub never_stops : s ≢ 2

@@ -1,27 +1,32 @@
 //! The commands: what each comes to, before anything is written.
 
-ghost use Rattle.std.specs.Prelude.{◌≡◌, ◌⊎◌, IfOk, IfSome, string_bytes, option_map, map};
+ghost use Rattle.std.specs.Prelude.{◌≡◌, ◌⊎◌, ◌↔◌, [], IfOk, IfSome, string_bytes, option_map, map};
 ghost use Rattle.cc_outside.specs.Shelves.{Counts, Known, NeverFall};
 ghost use Rattle.cc_meaning_plain.specs.Laws.{default_limits};
 ghost use Rattle.cc_meaning_plain.specs.Staged.{plain_report};
 ghost use Rattle.cc_cli.specs.Plans.{file_named, BytesPlan, RunPlan, ran_plan};
-ghost use Rattle.cc_cli.specs.Runs.{CallPlan, WordsPlan};
+ghost use Rattle.cc_link.specs.Links as links;
+ghost use Rattle.cc_link.specs.Honest.{told};
+ghost use Rattle.cc_cli.specs.Offloading.{offload_named};
+ghost use Rattle.cc_cli.specs.Runs.{Sources, CallPlan, WordsPlan};
 
 use crate::fault::Fault;
+use crate::offload::{offload_files, offload_named};
+use cc_link::Link;
+use cc_machine::run;
 use cc_meaning::lists::Bytes;
 use cc_meaning::report::Limits;
 use cc_meaning_plain::{Plain, law_plain_reports, law_plain_returns};
 use cc_outside::{ReadEnd, Shelf};
-use cc_machine::run;
 use cc_plain::read_plain;
 use cc_plan::Plan;
 use std::alloc::{AllocError, Global};
 
 /// The longest file that is read, in bytes.
-const LONGEST_FILE: u64 = 8_388_608;
+pub const LONGEST_FILE: u64 = 8_388_608;
 
 /// The limits of a run for which none are named.
-const DEFAULT_LIMITS: Limits = Limits {
+pub const DEFAULT_LIMITS: Limits = Limits {
     instructions: 100_000_000,
     words: 1_048_576,
 };
@@ -76,24 +81,48 @@ fn run_file<S: Shelf>(alloc: Global, name: &str, shelf: &mut S) -> Result<Plan, 
 }
 
 /// Does what the words call for, but for the writing.
-fn plan_of<S: Shelf>(alloc: Global, words: &[String], shelf: &mut S) -> Result<Plan, AllocError>
-    ensures plan { IfOk result (λ plan. CallPlan (file_named (map string_bytes words.now)) (S.known shelf.old) (S.counts shelf.old) (S.counts shelf.new) plan) }
+fn plan_of<S: Shelf, L: Link>(
+    alloc: Global,
+    words: &[String],
+    shelf: &mut S,
+    link: &mut L,
+) -> Result<Plan, AllocError>
+    ensures plan { let old : Sources = record { known = S.known shelf.old; counts = S.counts shelf.old; link = L.known link.old; calls = L.counts link.old } in
+        let new : Sources = record { known = S.known shelf.new; counts = S.counts shelf.new; link = L.known link.new; calls = L.counts link.new } in
+        IfOk result (λ plan. CallPlan (file_named (map string_bytes words.now)) (offload_named (map string_bytes words.now)) old new (link.new ≡ link.old)
+        (L.honest link.old × (L.known link.old ≡ told [] [])) plan) }
+    ensures link { offload_named (map string_bytes words.now) ≡ None → link.new ≡ link.old }
     ensures known { S.known shelf.new ≡ S.known shelf.old }
     ensures counts { NeverFall (S.counts shelf.old) (S.counts shelf.new) }
+    ensures calls { links.NeverFall (L.counts link.old) (L.counts link.new) }
+    ensures honest { L.honest link.old ↔ L.honest link.new }
 {
-    match file_named(words) {
-        Some(name) => run_file(alloc, name, shelf),
+    if let Some(name) = file_named(words) {
+        return run_file(alloc, name, shelf);
+    }
+    match offload_named(words) {
+        Some(names) => offload_files(alloc, &names, shelf, link),
         None => Fault::Usage.plan(alloc, ""),
     }
 }
 
 /// The same, or what want of memory comes to; none where there is no memory even for that.
-pub fn plan<S: Shelf>(alloc: Global, words: &[String], shelf: &mut S) -> Option<Plan>
-    ensures plan { IfSome result (λ plan. WordsPlan (map string_bytes words.now) (S.known shelf.old) (S.counts shelf.old) (S.counts shelf.new) plan) }
+pub fn plan<S: Shelf, L: Link>(
+    alloc: Global,
+    words: &[String],
+    shelf: &mut S,
+    link: &mut L,
+) -> Option<Plan>
+    ensures plan { let old : Sources = record { known = S.known shelf.old; counts = S.counts shelf.old; link = L.known link.old; calls = L.counts link.old } in
+        let new : Sources = record { known = S.known shelf.new; counts = S.counts shelf.new; link = L.known link.new; calls = L.counts link.new } in
+        IfSome result (λ plan. WordsPlan (map string_bytes words.now) old new (link.new ≡ link.old) (L.honest link.old × (L.known link.old ≡ told [] [])) plan) }
+    ensures link { offload_named (map string_bytes words.now) ≡ None → link.new ≡ link.old }
     ensures known { S.known shelf.new ≡ S.known shelf.old }
     ensures counts { NeverFall (S.counts shelf.old) (S.counts shelf.new) }
+    ensures calls { links.NeverFall (L.counts link.old) (L.counts link.new) }
+    ensures honest { L.honest link.old ↔ L.honest link.new }
 {
-    match plan_of(alloc, words, shelf) {
+    match plan_of(alloc, words, shelf, link) {
         Ok(plan) => Some(plan),
         Err(_) => Fault::Memory.plan(alloc, "").ok(),
     }

@@ -3,6 +3,7 @@
 
 mod command;
 mod fault;
+mod offload;
 mod run;
 mod shown;
 

@@ -1,22 +1,31 @@
 //! The one call.
 
-ghost use Rattle.std.specs.Prelude.{◌≡◌, ◌≤◌, string_bytes, map};
+ghost use Rattle.std.specs.Prelude.{◌≡◌, ◌↔◌, ◌≤◌, [], string_bytes, map};
 ghost use Rattle.cc_outside.specs.Shelves.{NeverFall};
+ghost use Rattle.cc_link.specs.Links as links;
+ghost use Rattle.cc_link.specs.Honest.{told};
+ghost use Rattle.cc_cli.specs.Offloading.{Names, offload_named};
 ghost use Rattle.cc_cli.specs.Runs.{Outside, Runs};
-ghost use Rattle.cc_cli.specs.Statuses.{Statuses};
+ghost use Rattle.cc_cli.specs.Statuses.{Statuses, Transparent};
 
 use crate::command::plan;
-use cc_outside::{Shelf, Sink};
 use cc_link::Link;
+use cc_outside::{Shelf, Sink};
 use cc_plan::carry_out;
 use std::alloc::Global;
 
 /// Does all that the words call for, over a shelf of files, sinks for output and for notes, and a link, and gives the status to end with.
 /// The words have no program name.
 ///
-/// `run FILE` runs a plain file: its output goes to `out`, and `end return` to `notes`. The statuses are 0; 64 where the words are no command;
+/// `run FILE` runs a plain file: its output goes to `out`, and `end return` to `notes`.
+///
+/// `offload FILE SCRIPT PARTITION PLACE` runs it too, and has the function that the partition names done by a clone at the place, over the link. The script is
+/// `{"classes":[]}`, the partition `{"moved":[]}` or `{"moved":["NAME"]}`. The output goes to `out`; to `notes` go `end return`, `end stop budget` or `end stop heap`,
+/// and then `link migrated N, fallback WORD`. Where the link's first fault keeps the clone from its work, the function is done here. No other command calls the link.
+///
+/// The statuses are 0; 2 where an offloaded run stopped; 64 where the words are no command;
 /// 70 where there is no memory; 71 where the file could not be read; 72 where a sink failed; 73 where there is no such file; 74 where it is
-/// longer than 8,388,608 bytes; 80 where it is no plain file. Room for all that is written is made on both sinks before the first write.
+/// longer than 8,388,608 bytes, or a script or partition than 16,777,216; 80 where the file isn't plain, or the script or the partition is of another form. Room for all that is written is made on both sinks before the first write.
 pub fn run_words<S: Shelf, O: Sink, N: Sink, L: Link>(
     alloc: Global,
     words: &[String],
@@ -25,19 +34,26 @@ pub fn run_words<S: Shelf, O: Sink, N: Sink, L: Link>(
     notes: &mut N,
     link: &mut L,
 ) -> u8
-    ensures runs { let before : Outside = record { known = S.known shelf.old; counts = S.counts shelf.old; out = O.pipe out.old; notes = N.pipe notes.old } in
-        let after : Outside = record { known = S.known shelf.new; counts = S.counts shelf.new; out = O.pipe out.new; notes = N.pipe notes.new } in
-        Runs (map string_bytes words.now) before result after }
-    ensures statuses { let before : Outside = record { known = S.known shelf.old; counts = S.counts shelf.old; out = O.pipe out.old; notes = N.pipe notes.old } in
-        let after : Outside = record { known = S.known shelf.new; counts = S.counts shelf.new; out = O.pipe out.new; notes = N.pipe notes.new } in
-        Statuses (map string_bytes words.now) before result after }
+    ensures runs { let before : Outside = record { known = S.known shelf.old; counts = S.counts shelf.old; link = L.known link.old; calls = L.counts link.old; out = O.pipe out.old; notes = N.pipe notes.old } in
+        let after : Outside = record { known = S.known shelf.new; counts = S.counts shelf.new; link = L.known link.new; calls = L.counts link.new; out = O.pipe out.new; notes = N.pipe notes.new } in
+        Runs (map string_bytes words.now) before result after (link.new ≡ link.old) (L.honest link.old × (L.known link.old ≡ told [] [])) }
+    ensures statuses { let before : Outside = record { known = S.known shelf.old; counts = S.counts shelf.old; link = L.known link.old; calls = L.counts link.old; out = O.pipe out.old; notes = N.pipe notes.old } in
+        let after : Outside = record { known = S.known shelf.new; counts = S.counts shelf.new; link = L.known link.new; calls = L.counts link.new; out = O.pipe out.new; notes = N.pipe notes.new } in
+        Statuses (map string_bytes words.now) before result after (link.new ≡ link.old) (L.honest link.old × (L.known link.old ≡ told [] [])) }
     ensures files { S.known shelf.new ≡ S.known shelf.old }
     ensures counts { NeverFall (S.counts shelf.old) (S.counts shelf.new) }
     ensures out { (O.pipe out.old).faults ≤ (O.pipe out.new).faults }
     ensures notes { (N.pipe notes.old).faults ≤ (N.pipe notes.new).faults }
-    ensures link { link.new ≡ link.old }
+    // Over a fresh link that tells that its far side is a clone, `offload` writes what the run on one heap writes.
+    ensures transparent { let before : Outside = record { known = S.known shelf.old; counts = S.counts shelf.old; link = L.known link.old; calls = L.counts link.old; out = O.pipe out.old; notes = N.pipe notes.old } in
+        let after : Outside = record { known = S.known shelf.new; counts = S.counts shelf.new; link = L.known link.new; calls = L.counts link.new; out = O.pipe out.new; notes = N.pipe notes.new } in
+        (names : Names) → offload_named (map string_bytes words.now) ≡ Some names → L.honest link.old → L.known link.old ≡ told [] [] → Transparent names before result after }
+    // No other command calls the link.
+    ensures link { offload_named (map string_bytes words.now) ≡ None → link.new ≡ link.old }
+    ensures calls { links.NeverFall (L.counts link.old) (L.counts link.new) }
+    ensures honest { L.honest link.old ↔ L.honest link.new }
 {
-    match plan(alloc, words, shelf) {
+    match plan(alloc, words, shelf, link) {
         Some(plan) => carry_out(&plan, out, notes),
         None => 70,
     }

@@ -2,6 +2,10 @@
 #![tactic(auto)]
 
 #[cfg(test)]
+mod adds_one;
+#[cfg(test)]
+mod offload;
+#[cfg(test)]
 mod run;
 #[cfg(test)]
 mod sample;

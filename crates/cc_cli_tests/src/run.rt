@@ -5,10 +5,10 @@ use crate::sample::{
     TEXT_COUNT,
 };
 use cc_cli::run_words;
+use cc_link::{CannedEnd, CannedLink};
 use cc_meaning::file::{Files, ShelfFile};
 use cc_meaning::lists::{Bytes, CallList};
 use cc_meaning::text::Text;
-use cc_link::{CannedEnd, CannedLink};
 use cc_outside::{MemoryShelf, MemorySink};
 use std::alloc::{AllocError, Global};
 use std::test::Fail;

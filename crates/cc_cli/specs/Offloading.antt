@@ -1,0 +1,119 @@
+-- What `offload FILE SCRIPT PARTITION PLACE` comes to, before anything is written.
+use Rattle.std.specs.Prelude.{◌≡◌, ◌≢◌, ◌⊎◌, ℕ, ◌≤◌, List, [], ◌∷◌, ◌++◌, length, Option, Some, None, if◌then◌else◌, codes}
+use Rattle.std.specs.Str.{bytes_eq}
+use Rattle.cc_meaning.specs.declared.file.Job.{Job}
+use Rattle.cc_meaning.specs.declared.report.Report.{Report}
+use Rattle.cc_meaning.specs.declared.travel.Travel.{Travel}
+use Rattle.cc_outside.specs.Counting.{Rose}
+use Rattle.cc_outside.specs.Shelves as shelf
+use Rattle.cc_outside.specs.declared.shelf.ReadEnd.{ReadEnd}
+use Rattle.cc_outside.specs.declared.shelf.ReadEnd.TheVariants as reads
+use Rattle.cc_link.specs.Links as link
+use Rattle.cc_plan.specs.declared.plan.Plan.{Plan}
+use Rattle.cc_meaning_lines.specs.Travel.{ended_line, ended_status, travel_line}
+use Rattle.cc_meaning_plain.specs.declared.plain.Plain.{Plain}
+use Rattle.cc_meaning_plain.specs.Tables.{longest_file}
+use Rattle.cc_meaning_plain.specs.Plain.{IsPlain}
+use Rattle.cc_meaning_plain.specs.Laws.{default_limits}
+use Rattle.cc_meaning_clone.specs.Hello.{no_script}
+use Rattle.cc_partition.specs.Partition.{IsPartition}
+use Rattle.cc_device.specs.Travelling.{Offloads}
+use Rattle.cc_cli.specs.declared.fault.Fault.TheVariants as faults
+use Rattle.cc_cli.specs.Faults.{fault_plan}
+use Rattle.cc_cli.specs.Plans.{IsNotPlain, Returns}
+
+-- ---- the words
+
+-- the three files, and the place of the clone
+pub record Names : Type 0 where
+  pub file : List ℕ
+  pub script : List ℕ
+  pub partition : List ℕ
+  pub place : List ℕ
+
+abbrev pub all_names : (file script partition place : List ℕ) → Names
+all_names file script partition place = record { file = file; script = script; partition = partition; place = place }
+
+-- the names in the words `offload FILE SCRIPT PARTITION PLACE`, which are just these five
+abbrev pub offload_named : List (List ℕ) → Option Names
+offload_named [] = None
+offload_named (command ∷ []) = None
+offload_named (command ∷ file ∷ []) = None
+offload_named (command ∷ file ∷ script ∷ []) = None
+offload_named (command ∷ file ∷ script ∷ partition ∷ []) = None
+offload_named (command ∷ file ∷ script ∷ partition ∷ place ∷ []) = if bytes_eq command (codes "offload") then Some (all_names file script partition place) else None
+offload_named (command ∷ file ∷ script ∷ partition ∷ place ∷ sixth ∷ rest) = None
+
+-- ---- the files
+
+-- the longest script and partition that are read
+abbrev pub longest_text : ℕ
+longest_text = 16777216
+
+-- why a file was not read; want of memory is told elsewhere
+abbrev pub UnreadPlan : ReadEnd → (name : List ℕ) → Plan → Type 0
+UnreadPlan reads.Failed name plan = plan ≡ fault_plan faults.ReadFault name
+UnreadPlan reads.Absent name plan = plan ≡ fault_plan faults.Absent name
+UnreadPlan reads.TooLarge name plan = plan ≡ fault_plan faults.TooLarge name
+UnreadPlan reads.Memory name plan = ⊥
+
+-- A file could not be read, there is none of this name, or it is too long, and the link is untouched; or it was read, and this holds of its bytes and of the counts then.
+pub data ReadPlan (known : shelf.Known) (old : shelf.Counts) (name : List ℕ) (limit : ℕ) (new : shelf.Counts) (untouched : Type 0) (plan : Plan) (Then : List ℕ → shelf.Counts → Type 0) : Type 0 where
+  failed : Rose old.faults new.faults → plan ≡ fault_plan faults.ReadFault name → untouched → ReadPlan known old name limit new untouched plan Then
+  absent : shelf.IsAbsent known name → Rose old.misses new.misses → plan ≡ fault_plan faults.Absent name → untouched → ReadPlan known old name limit new untouched plan Then
+  too_large : shelf.IsLonger known name limit → Rose old.misses new.misses → plan ≡ fault_plan faults.TooLarge name → untouched → ReadPlan known old name limit new untouched plan Then
+  was_read : (bytes : List ℕ) (middle : shelf.Counts) → shelf.IsFile known name bytes → length bytes ≤ limit → shelf.NeverFall old middle → Then bytes middle →
+      ReadPlan known old name limit new untouched plan Then
+
+-- it is refused, nothing more is read, and the link is untouched
+abbrev pub Refused : (middle new : shelf.Counts) → (untouched : Type 0) → Plan → Type 0
+Refused middle new untouched plan = (plan ≡ fault_plan faults.NotBuilt []) × (new ≡ middle) × untouched
+
+-- ---- the run
+
+-- all that the device is given
+abbrev pub job_of : (file place : List ℕ) → Job
+job_of file place = record { file = file; script = no_script; main = None; args = []; limits = default_limits; place = place; patience = 1000 }
+
+-- what was printed goes to out; how the run ended, and how the device fared, to notes
+pub record OffloadedPlan (report : Report) (travel : Travel) (plan : Plan) : Type 0 where
+  pub ended : List ℕ
+  pub is_ended : ended_line report.ending ≡ Some ended
+  pub is_plan : plan ≡ record { status = ended_status report.ending; out = report.out; notes = ended ++ travel_line travel }
+
+-- a text says nothing of this file
+abbrev pub MovesNoneOf : Plain → List ℕ → Type 0
+MovesNoneOf plain text = (moved : Option ℕ) → IsPartition plain text moved → ⊥
+
+-- The run over what was sent and got on the link. Where the link is trusted, its report is that of the run on one heap.
+pub record Offloaded (place : List ℕ) (k : link.Known) (before : link.Counts) (k' : link.Known) (after : link.Counts) (untouched trusted : Type 0) (file : List ℕ) (plain : Plain) (moved : Option ℕ) (plan : Plan) : Type 0 where
+  pub report : Report
+  pub travel : Travel
+  pub offloads : Offloads plain moved (job_of file place) report travel k before k' after untouched
+  pub is_plan : OffloadedPlan report travel plan
+  pub transparent : trusted → Returns file report
+
+-- by the text of the partition: it says nothing of the file, and the link is untouched; or the file runs
+abbrev pub TextPlan : (place : List ℕ) → link.Known → link.Counts → link.Known → link.Counts → (untouched trusted : Type 0) → (file : List ℕ) → Plain → (text : List ℕ) → Plan → Type 0
+TextPlan place k before k' after untouched trusted file plain text plan =
+    (MovesNoneOf plain text × (plan ≡ fault_plan faults.NotBuilt []) × untouched)
+    ⊎ ((moved : Option ℕ) × IsPartition plain text moved × Offloaded place k before k' after untouched trusted file plain moved plan)
+
+module _ (names : Names) (known : shelf.Known) (new : shelf.Counts) (k : link.Known) (before : link.Counts) (k' : link.Known) (after : link.Counts) (untouched trusted : Type 0) where
+  -- by the partition
+  abbrev pub PartitionPlan : (file : List ℕ) → Plain → Plan → (text : List ℕ) → (middle : shelf.Counts) → Type 0
+  PartitionPlan file plain plan text middle = (new ≡ middle) × TextPlan names.place k before k' after untouched trusted file plain text plan
+
+  -- by the script
+  abbrev pub ScriptPlan : (file : List ℕ) → Plain → Plan → (script : List ℕ) → (middle : shelf.Counts) → Type 0
+  ScriptPlan file plain plan script middle =
+      ((script ≢ no_script) × Refused middle new untouched plan) ⊎ ((script ≡ no_script) × ReadPlan known middle names.partition longest_text new untouched plan (PartitionPlan file plain plan))
+
+  -- by the file
+  abbrev pub FilePlan : Plan → (file : List ℕ) → (middle : shelf.Counts) → Type 0
+  FilePlan plan file middle =
+      (IsNotPlain file × Refused middle new untouched plan) ⊎ ((plain : Plain) × IsPlain file plain × ReadPlan known middle names.script longest_text new untouched plan (ScriptPlan file plain plan))
+
+  -- each file is read and judged before the next is read
+  abbrev pub OffloadPlan : (old : shelf.Counts) → Plan → Type 0
+  OffloadPlan old plan = ReadPlan known old names.file longest_file new untouched plan (FilePlan plan)
