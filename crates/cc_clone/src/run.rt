@@ -10,6 +10,7 @@ ghost use Rattle.cc_clone.specs.Parts.{IsOfFile};
 
 use crate::job::Job;
 use cc_list::List;
+use cc_machine::run_function;
 use cc_meaning::fault::{ImageFault, Memory};
 use cc_meaning::image::{BackImage, Contents, RunImage};
 use cc_meaning::lists::{Bytes, MethodIx};
@@ -18,7 +19,6 @@ use cc_meaning::value::Value;
 use cc_meaning_clone::run_laws;
 use cc_meaning_images::law_run_is_spelled;
 use cc_meaning_plain::Plain;
-use cc_machine::run_function;
 use cc_wire::{decode_run, encode_back, function_numbered};
 use std::alloc::{AllocError, Global};
 

@@ -55,8 +55,10 @@ back_keeps to came p i w = by came.value
   where
     q : Progress
     q = record p { instructions = came.instructions; words = came.words }
+
     fewer : StepKeeps p (record p { instructions = came.instructions; words = came.words })
     fewer = record { instructions = i; words = w; next = refl }
+
     by : (r : Result ℤ StopCause) → StepsSo p (behind to r (record p { instructions = came.instructions; words = came.words }))
     by (Ok x) = steps_trans p (record p { instructions = came.instructions; words = came.words }) (result_taken to x (record p { instructions = came.instructions; words = came.words })) fewer (result_keeps to x (record p { instructions = came.instructions; words = came.words }))
     by (Err c) = fewer

@@ -172,7 +172,7 @@ judged_so goes_on again job plain sent images short hello p =
     let runs = flat_map (λ image. spelling (run_frame image)) images in
     let parts : frames_of (sent ++ p.0) ≡ with_frames (frames_of sent).frames (frames_from (frames_of sent).ending p.0) = goes_on (Rest []) sent p.0 in
     let all : frames_of (requests (hello_payload job) images) ≡ with_frames (f ∷ []) (frames_of runs) =
-        ap (λ (xs : List ℕ). frames_of (xs ++ runs)) (sym (append-nil (frame_bytes hello_kind (hello_payload job)))) ∙ again (f ∷ []) runs (is_frame, tt) in
+    ap (λ (xs : List ℕ). frames_of (xs ++ runs)) (sym (append-nil (frame_bytes hello_kind (hello_payload job)))) ∙ again (f ∷ []) runs (is_frame, tt) in
     first_is (frames_of sent).frames (frames_from (frames_of sent).ending p.0).frames (frames_of runs).frames f (Ok plain) (ap Frames.frames (sym parts ∙ ap frames_of p.1 ∙ all)) (accepted plain hello)
 
 pub is_local : (law : CloneIsTransparent) (goes_on : GoesOn) (again : IsReadAgain) (plain : Plain) (moved : Option ℕ) (job : Job) (report : Report) (travel : Travel) (k : Known) (old : Counts) (k' : Known) (new : Counts) (untouched : Type 0) → IsOfFile plain →

@@ -54,7 +54,7 @@ module _ (goes_on : GoesOn) (nothing : NothingMore) (whole : BeginsWithWhole) wh
         ∙ back_taken p image a.frame (frames_of more).frames back a.judged
     took_taken false sent got more back (opened_first ready first sent2 got2 sent_is got_is stands judged a) =
         let all : frames_of (got ++ more) ≡ with_frame ready (frames_of (got2 ++ more)) =
-            ap (λ (xs : List ℕ). frames_of (xs ++ more)) got_is ∙ ap frames_of (append_assoc first got2 more) ∙ frames_whole goes_on nothing whole first (got2 ++ more) ready stands in
+        ap (λ (xs : List ℕ). frames_of (xs ++ more)) got_is ∙ ap frames_of (append_assoc first got2 more) ∙ frames_whole goes_on nothing whole first (got2 ++ more) ready stands in
         ap (back_of_frames p image) (behind_first (received_of (reaching false merged) images (frames_of (got ++ more)).frames) ready (frames_of (got2 ++ more)).frames refl (ap Frames.frames all) judged
         ∙ ap (λ (fs : List Frame). Some fs) (ap Frames.frames (frames_whole goes_on nothing whole got2 more a.frame a.whole)))
         ∙ back_taken p image a.frame (frames_of more).frames back a.judged

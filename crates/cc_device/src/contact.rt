@@ -27,8 +27,11 @@ use std::alloc::Global;
 const VERSION: u8 = 1;
 
 const READY: u8 = 2;
+
 const RUN: u8 = 3;
+
 const BACK: u8 = 4;
+
 const REFUSE: u8 = 5;
 
 /// How a device stands with its clone: whether the Ready came, how many Backs were merged, and why no more methods migrate, where that came to be.

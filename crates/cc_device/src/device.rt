@@ -173,7 +173,9 @@ fn call_moved<L: Link>(
     frame_laws::nothing_more();
     frame_laws::begins_with_whole();
     let Entry {
-        function, argument, ..
+        function,
+        argument,
+        ..
     } = entry;
     let instructions = machine.instructions();
     let words = machine.words();

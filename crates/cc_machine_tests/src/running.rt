@@ -1,10 +1,10 @@
 //! The run of plain files: published worked examples, and sums that a program in Python took.
 
 use cc_list::List;
+use cc_machine::{run, run_function};
 use cc_meaning::lists::Units;
 use cc_meaning::report::{Ending, Limits, StopCause};
 use cc_meaning_plain::{Last, Plain, PlainCode, PlainFunction, PlainFunctions, PlainInsn};
-use cc_machine::{run, run_function};
 use std::alloc::{AllocError, Global};
 use std::test::Fail;
 

@@ -1,5 +1,4 @@
 use Rattle.std.proofs.lemmas.Result.{err_from_is_err_and}
-
 use Rattle.cc_device.specs.Judging.{judge_ready}
 use Rattle.cc_device.proofs.Judged.{passed_on, judged_on}
 use Rattle.cc_device.proofs.contact.greet.Goals as goal

@@ -11,8 +11,8 @@ invariant-calling g l = record {
   within : l.machine.next ≤ length l.plain.main.insns;
   later : IsLater l.pause l.contact.merged l.machine.next;
   stands : (k : Known) (c : Counts) →
-    Stood l.fn.plain l.fn.moved l.fn.job l.fn.contact (paused_course l.fn.plain (moves_of l.fn.plain l.fn.moved) l.fn.first l.fn.machine) k c (g.L.Link.known l.fn.link) (g.L.Link.counts l.fn.link) →
-    Stood l.plain l.moved l.job l.contact (paused_course l.plain (moves_of l.plain l.moved) l.pause l.machine) k c (g.L.Link.known l.link) (g.L.Link.counts l.link);
+      Stood l.fn.plain l.fn.moved l.fn.job l.fn.contact (paused_course l.fn.plain (moves_of l.fn.plain l.fn.moved) l.fn.first l.fn.machine) k c (g.L.Link.known l.fn.link) (g.L.Link.counts l.fn.link) →
+      Stood l.plain l.moved l.job l.contact (paused_course l.plain (moves_of l.plain l.moved) l.pause l.machine) k c (g.L.Link.known l.link) (g.L.Link.counts l.link);
   home : l.contact.is_open ≡ false → l.contact.end ≡ None → l.link ≡ l.fn.link;
   counts : NeverFall (g.L.Link.counts l.fn.link) (g.L.Link.counts l.link);
   honest : g.L.Link.honest l.fn.link ↔ g.L.Link.honest l.link;
