@@ -1,5 +1,6 @@
 pub mod Showing
 pub mod Planning
+pub mod Due
 pub mod Outcomes
 pub mod Statuses
 pub mod Running

@@ -1,20 +1,16 @@
 -- What the steps of `offload` come to.
-use Rattle.std.proofs.Common.{inl, inr, ◌≡◌, ◌≢◌, ◌⊎◌, ℕ, ◌≤◌, List, length, Option, Some, None, Result, Ok, Err, Bool, true, false, refl, sym, ◌∙◌, subst, true≢false}
+use Rattle.std.proofs.Common.{◌≡◌, ◌≢◌, ℕ, ◌≤◌, List, length, Option, Some, None, Result, Ok, Err, Bool, true, false, sym, ◌∙◌, subst, true≢false}
 use Rattle.std.specs.Prelude.{IfOk, MatchOption}
 use Rattle.std.specs.Bool.{Decides}
 use Rattle.std.specs.declared.alloc.AllocError.{AllocError}
 use Rattle.cc_outside.specs.Shelves as shelf
-use Rattle.cc_link.specs.Links as link
 use Rattle.cc_plan.specs.declared.plan.Plan.{Plan}
 use Rattle.cc_meaning_plain.specs.declared.plain.Plain.{Plain}
 use Rattle.cc_meaning_plain.specs.Plain.{IsPlain}
 use Rattle.cc_meaning_clone.specs.Hello.{no_script}
-use Rattle.cc_partition.specs.Partition.{IsPartition}
-use Rattle.cc_cli.specs.declared.fault.Fault.TheVariants as faults
-use Rattle.cc_cli.specs.Faults.{fault_plan}
 use Rattle.cc_cli.specs.Plans.{IsNotPlain, RunPlan}
 use Rattle.cc_cli.specs.Runs.{Sources, CallPlan}
-use Rattle.cc_cli.specs.Offloading.{Names, longest_text, ReadPlan, was_read, Refused, Offloaded, MovesNoneOf, TextPlan, PartitionPlan, ScriptPlan, FilePlan}
+use Rattle.cc_cli.specs.Offloading.{Names, ReadPlan, was_read}
 
 -- what holds of a plan that was made holds in other words
 pub on_plan : (made : Result Plan AllocError) (P Q : Plan → Type 0) → ((plan : Plan) → P plan → Q plan) → IfOk made P → IfOk made Q

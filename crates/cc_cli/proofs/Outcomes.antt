@@ -1,12 +1,13 @@
 -- What `offload` comes to, and what each status says of it.
-use Rattle.std.proofs.Common.{inl, inr, ◌≡◌, ◌≢◌, ◌⊎◌, ℕ, ◌<◌, ◌≤◌, List, [], ◌++◌, length, Option, Some, None, refl, sym, ap, subst, ◌∙◌, arith}
+use Rattle.std.proofs.Common.{inl, inr, ◌≡◌, ◌≢◌, ◌⊎◌, ℕ, ◌≤◌, List, [], ◌++◌, length, Option, Some, refl, sym, ap, subst, ◌∙◌, arith}
+use Rattle.std.specs.Prelude.{IfSome}
 use Rattle.cc_meaning.specs.declared.report.Report.{Report}
 use Rattle.cc_meaning.specs.declared.report.Ending.{Ending}
 use Rattle.cc_meaning.specs.declared.report.Ending.TheVariants as ending
 use Rattle.cc_meaning.specs.declared.travel.Travel.{Travel}
 use Rattle.cc_outside.specs.Counting.{Rose}
 use Rattle.cc_outside.specs.Telling.{more}
-use Rattle.cc_outside.specs.Shelves.{Known, Counts, NeverFall, IsFile, IsAbsent, IsLonger}
+use Rattle.cc_outside.specs.Shelves.{Counts, NeverFall, IsFile, IsAbsent, IsLonger}
 use Rattle.cc_plan.specs.declared.plan.Plan.{Plan}
 use Rattle.cc_plan.specs.Carrying.{AsPlanned, Ends, Wrote}
 use Rattle.cc_meaning_lines.specs.Lines.{returned_line}
@@ -14,6 +15,7 @@ use Rattle.cc_meaning_lines.specs.Travel.{ended_line, ended_status, travel_line}
 use Rattle.cc_meaning_plain.specs.declared.plain.Plain.{Plain}
 use Rattle.cc_meaning_plain.specs.Tables.{longest_file}
 use Rattle.cc_meaning_plain.specs.Plain.{IsPlain}
+use Rattle.cc_meaning_plain.specs.Laws.{PlainOnce}
 use Rattle.cc_meaning_clone.specs.Hello.{no_script}
 use Rattle.cc_partition.specs.Partition.{IsPartition}
 use Rattle.cc_cli.specs.declared.fault.Fault.{Fault}
@@ -22,7 +24,8 @@ use Rattle.cc_cli.specs.Faults.{status_of, fault_plan}
 use Rattle.cc_cli.specs.Plans.{Returns}
 use Rattle.cc_cli.specs.Offloading.{Names, longest_text, ReadPlan, failed, absent, too_large, was_read, OffloadedPlan, Offloaded, TextPlan, PartitionPlan, ScriptPlan, FilePlan, OffloadPlan}
 use Rattle.cc_cli.specs.Runs.{Outside}
-use Rattle.cc_cli.specs.Statuses.{Says, NextRead, the_file, the_script, the_partition, IsRefused, by_file, by_script, by_partition, RanThere, OffloadsFiles, Transparent}
+use Rattle.cc_cli.specs.Statuses.{Says, NextRead, the_file, the_script, the_partition, IsRefused, by_file, by_script, by_partition, DueByFiles, RanThere, OffloadsFiles, Transparent}
+use Rattle.cc_cli.proofs.Due.{told_early, told_due}
 
 some_same : {A : Type 0} {a b : A} → Some a ≡ Some b → a ≡ b
 some_same e = cc
@@ -216,8 +219,22 @@ module _ (names : Names) (plan : Plan) (old new : Outside) (untouched trusted : 
   planned_ran c (inl z) = planned_at 0 c z (λ e. omega (arith, e)) (λ e. omega (arith, e))
   planned_ran c (inr z) = planned_at 2 c z (λ e. omega (arith, e)) (λ e. omega (arith, e))
 
-  pub offloads_files : Came → Carried → OffloadsFiles names old s new untouched trusted
-  offloads_files o c = record {
+  -- the status that is due by the files, of a plan that came of them
+  due_by : PlainOnce → OffloadPlan names old.known new.counts old.link old.calls new.link new.calls untouched trusted old.counts plan → Carried → IfSome old.known.files (λ files. DueByFiles names files s)
+  due_by once h (inl a) = told_due old.known.files names plan s old.counts new.counts old.link old.calls new.link new.calls untouched trusted a.status (λ report travel o. ran_status report travel o a) once h
+  due_by once h (inr (inl u)) = told_early s old.known.files names (inl u.status)
+  due_by once h (inr (inr (inl o))) = told_early s old.known.files names (inr (inr o.status))
+  due_by once h (inr (inr (inr o))) = told_early s old.known.files names (inr (inr o.status))
+
+  due_memory : plan ≡ fault_plan faults.Memory [] → Carried → IfSome old.known.files (λ files. DueByFiles names files s)
+  due_memory e (inl a) = told_early s old.known.files names (inl (fault_status faults.Memory [] e a))
+  due_memory e (inr (inl u)) = told_early s old.known.files names (inl u.status)
+  due_memory e (inr (inr (inl o))) = told_early s old.known.files names (inr (inr o.status))
+  due_memory e (inr (inr (inr o))) = told_early s old.known.files names (inr (inr o.status))
+
+  offloads_files : IfSome old.known.files (λ files. DueByFiles names files s) → Came → Carried → OffloadsFiles names old s new untouched trusted
+  offloads_files due o c = record {
+    due = due;
     ran = λ z. ran_by o (planned_ran c z) z;
     never_throws = λ z. throws_by o (planned_at 1 c z (λ e. omega (arith, e)) (λ e. omega (arith, e))) z;
     refused = λ z. refused_by o (planned_at 80 c z (λ e. omega (arith, e)) (λ e. omega (arith, e))) z;
@@ -225,6 +242,12 @@ module _ (names : Names) (plan : Plan) (old new : Outside) (untouched trusted : 
     absent = λ z. absent_by o (planned_at 73 c z (λ e. omega (arith, e)) (λ e. omega (arith, e))) z;
     too_large = λ z. too_large_by o (planned_at 74 c z (λ e. omega (arith, e)) (λ e. omega (arith, e))) z;
   }
+
+  pub planned_files : PlainOnce → OffloadPlan names old.known new.counts old.link old.calls new.link new.calls untouched trusted old.counts plan → Carried → OffloadsFiles names old s new untouched trusted
+  planned_files once h c = offloads_files (due_by once h c) (outcome names plan old new untouched trusted h) c
+
+  pub memory_files : plan ≡ fault_plan faults.Memory [] → Carried → OffloadsFiles names old s new untouched trusted
+  memory_files e c = offloads_files (due_memory e c) (no_memory e) c
 
 -- ---- over a link that is trusted
 

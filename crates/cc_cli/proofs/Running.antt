@@ -1,6 +1,6 @@
 -- What a device needs of a plain file's job, and what its run comes to.
 use Rattle.std.proofs.Common.{inl, lit<, ◌≡◌, ℕ, ◌^◌, ◌<◌, ◌≤◌, List, [], length, length-append, Option, Some, None, Result, Ok, Err, refl, sym, ap, subst, ◌∙◌, arith}
-use Rattle.std.specs.Prelude.{IfOk, IsSome, slice_get}
+use Rattle.std.specs.Prelude.{IfOk, IsSome}
 use Rattle.std.proofs.lemmas.Str.{IsUtf8-nil}
 use Rattle.std.specs.declared.alloc.AllocError.{AllocError}
 use Rattle.std.proofs.lemmas.Option.{slice_get_within}

@@ -15,6 +15,7 @@ use Rattle.cc_meaning_lines.specs.Travel.{ended_status}
 use Rattle.cc_meaning_plain.specs.declared.plain.Plain.{Plain}
 use Rattle.cc_meaning_plain.specs.Tables.{longest_file}
 use Rattle.cc_meaning_plain.specs.Plain.{IsPlain}
+use Rattle.cc_meaning_plain.specs.Laws.{PlainOnce}
 use Rattle.cc_cli.specs.declared.fault.Fault.{Fault}
 use Rattle.cc_cli.specs.declared.fault.Fault.TheVariants as faults
 use Rattle.cc_cli.specs.Faults.{status_of, fault_plan}
@@ -22,7 +23,7 @@ use Rattle.cc_cli.specs.Plans.{file_named, IsNotPlain, Returns, ran_plan, RunPla
 use Rattle.cc_cli.specs.Offloading.{Names, offload_named, OffloadedPlan}
 use Rattle.cc_cli.specs.Runs.{Outside, sources, CallPlan, WordsPlan, Runs}
 use Rattle.cc_cli.specs.Statuses.{DueBy, Says, RunsFile, OffloadsFiles, Statuses, Transparent}
-use Rattle.cc_cli.proofs.Outcomes.{is_transparent, Outcome, files_failed, file_absent, file_too_large, files_refused, file_ran, no_memory, outcome, ended_so, offloads_files}
+use Rattle.cc_cli.proofs.Outcomes.{is_transparent, Outcome, files_failed, file_absent, file_too_large, files_refused, file_ran, no_memory, outcome, ended_so, planned_files, memory_files}
 
 some_same : {A : Type 0} {a b : A} → Some a ≡ Some b → a ≡ b
 some_same e = cc
@@ -402,20 +403,21 @@ module _ (plan : Plan) (old new : Outside) (s : ℕ) where
     words_run words name e (inl h) c = call_runs (file_named words) (offload_named words) name e h c
     words_run words name e (inr m) c = memory_runs name m c
 
-    call_offloads : (call : Option (List ℕ)) (found : Option Names) (names : Names) → call ≡ None → found ≡ Some names → Call call found → Outcome names plan old new untouched trusted
-    call_offloads (Some name) found names e f h = absurd (some_none name e)
+    call_offloads : PlainOnce → (call : Option (List ℕ)) (found : Option Names) (names : Names) → call ≡ None → found ≡ Some names → Call call found → Carried → OffloadsFiles names old s new untouched trusted
+    call_offloads once (Some name) found names e f h c = absurd (some_none name e)
       where
         some_none : (name : List ℕ) → Some name ≡ None → ⊥
         some_none name e = cc
-    call_offloads None None names e f h = absurd (none_some names f)
+    call_offloads once None None names e f h c = absurd (none_some names f)
       where
         none_some : (names : Names) → None ≡ Some names → ⊥
         none_some names f = cc
-    call_offloads None (Some other) names e f h = subst (λ (n : Names). Outcome n plan old new untouched trusted) (some_same f) (outcome other plan old new untouched trusted h)
+    call_offloads once None (Some other) names e f h c =
+        subst (λ (n : Names). OffloadsFiles n old s new untouched trusted) (some_same f) (planned_files other plan old new untouched trusted s once h c)
 
-    words_outcome : (words : List (List ℕ)) (names : Names) → offload_named words ≡ Some names → WordsPlan words (sources old) (sources new) untouched trusted plan → Outcome names plan old new untouched trusted
-    words_outcome words names e (inl h) = call_offloads (file_named words) (offload_named words) names (no_run_named words names e) e h
-    words_outcome words names e (inr m) = no_memory m
+    words_offload : PlainOnce → (words : List (List ℕ)) (names : Names) → offload_named words ≡ Some names → WordsPlan words (sources old) (sources new) untouched trusted plan → Carried → OffloadsFiles names old s new untouched trusted
+    words_offload once words names e (inl h) c = call_offloads once (file_named words) (offload_named words) names (no_run_named words names e) e h c
+    words_offload once words names e (inr m) c = memory_files names plan old new untouched trusted s m c
 
     stopped_call : (name : Option (List ℕ)) (found : Option Names) → Call name found → Planned → s ≡ 2 → (names : Names) × (found ≡ Some names)
     stopped_call (Some name) found h a z = absurd (no_run_stops name h.0 a z)
@@ -426,12 +428,12 @@ module _ (plan : Plan) (old new : Outside) (s : ℕ) where
     stopped_by words (inl h) a z = stopped_call (file_named words) (offload_named words) h a z
     stopped_by words (inr e) a z = absurd (omega (arith, fault_status faults.Memory [] e a, z))
 
-    all_statuses : (words : List (List ℕ)) → WordsPlan words (sources old) (sources new) untouched trusted plan → Carried → Statuses words old s new untouched trusted
-    all_statuses words w c = record {
+    all_statuses : PlainOnce → (words : List (List ℕ)) → WordsPlan words (sources old) (sources new) untouched trusted plan → Carried → Statuses words old s new untouched trusted
+    all_statuses once words w c = record {
       usage = λ z. usage_by words w (planned_at 64 c z (λ e. omega (arith, e)) (λ e. omega (arith, e))) z;
       no_command = no_command_by words w c;
       run = λ name e. words_run words name e w c;
-      offload = λ names e. offloads_files names plan old new untouched trusted s (words_outcome words names e w) c;
+      offload = λ names e. words_offload once words names e w c;
       memory = memory_by (words_kind words w) c;
       lost = lost_by c (planned_not_72 (words_kind words w));
       no_output = quiet_by (words_kind words w) c;
@@ -439,12 +441,12 @@ module _ (plan : Plan) (old new : Outside) (s : ℕ) where
       others = others_by (words_kind words w) c;
     }
 
-pub statuses : (words : List (List ℕ)) (old new : Outside) (s : ℕ) (untouched trusted : Type 0) → Runs words old s new untouched trusted → Statuses words old s new untouched trusted
-statuses words old new s untouched trusted runs = all_statuses runs.0 old new s untouched trusted words runs.1 runs.2
+pub statuses : PlainOnce → (words : List (List ℕ)) (old new : Outside) (s : ℕ) (untouched trusted : Type 0) → Runs words old s new untouched trusted → Statuses words old s new untouched trusted
+statuses once words old new s untouched trusted runs = all_statuses runs.0 old new s untouched trusted once words runs.1 runs.2
 
 -- there is no memory even for a plan, and nothing is done
 pub no_plan : (words : List (List ℕ)) (old new : Outside) (untouched trusted : Type 0) → new.out ≡ old.out → new.notes ≡ old.notes → Runs words old 70 new untouched trusted
 no_plan words old new untouched trusted o n = (fault_plan faults.Memory [], inr refl, inr (inl (record { status = refl; out = ap (λ (p : Pipe). p.text) o; notes = ap (λ (p : Pipe). p.text) n })))
 
-pub transparent : (words : List (List ℕ)) (old new : Outside) (s : ℕ) (untouched trusted : Type 0) → Runs words old s new untouched trusted → (names : Names) → offload_named words ≡ Some names → trusted → Transparent names old s new
-transparent words old new s untouched trusted runs names e h = is_transparent names old new s untouched trusted ((statuses words old new s untouched trusted runs).offload names e) h
+pub transparent : PlainOnce → (words : List (List ℕ)) (old new : Outside) (s : ℕ) (untouched trusted : Type 0) → Runs words old s new untouched trusted → (names : Names) → offload_named words ≡ Some names → trusted → Transparent names old s new
+transparent once words old new s untouched trusted runs names e h = is_transparent names old new s untouched trusted ((statuses once words old new s untouched trusted runs).offload names e) h

@@ -1,8 +1,8 @@
 -- What each status of a run of the program says.
-use Rattle.std.specs.Prelude.{◌≡◌, ◌≢◌, ◌⊎◌, ℕ, ◌<◌, ◌≤◌, List, [], ◌++◌, length, Option, Some, None}
+use Rattle.std.specs.Prelude.{◌≡◌, ◌≢◌, ◌⊎◌, ℕ, ◌<◌, ◌≤◌, List, [], ◌++◌, length, Option, Some, None, IfSome}
 use Rattle.cc_meaning.specs.declared.report.Report.{Report}
 use Rattle.cc_outside.specs.Counting.{Rose}
-use Rattle.cc_outside.specs.Shelves.{Known, Tells, IsFile, IsAbsent, IsLonger}
+use Rattle.cc_outside.specs.Shelves.{Files, Known, Tells, IsFile, IsAbsent, IsLonger}
 use Rattle.cc_plan.specs.Carrying.{Wrote}
 use Rattle.cc_meaning.specs.declared.travel.Travel.{Travel}
 use Rattle.cc_meaning_lines.specs.Lines.{returned_line}
@@ -64,6 +64,33 @@ pub data IsRefused (names : Names) (known : Known) : Type 0 where
   by_partition : (file : List ℕ) (plain : Plain) (text : List ℕ) → IsFile known names.file file → IsPlain file plain → IsFile known names.script no_script →
       IsFile known names.partition text → length text ≤ longest_text → MovesNoneOf plain text → IsRefused names known
 
+-- ---- the status that is due by the files
+
+-- A file is the next to be read, and is told: there is none, or it is too long, or it is read, and the status is due by its bytes.
+pub record DueByNext (file : Option (List ℕ)) (limit s : ℕ) (Then : List ℕ → Type 0) : Type 0 where
+  pub absent : file ≡ None → IsDue 73 s
+  pub too_large : (bytes : List ℕ) → file ≡ Some bytes → limit < length bytes → IsDue 74 s
+  pub read : (bytes : List ℕ) → file ≡ Some bytes → length bytes ≤ limit → Then bytes
+
+-- it says nothing of the file; or the file runs, and returns or stops
+abbrev pub DueByPartition : Plain → ℕ → List ℕ → Type 0
+DueByPartition plain s text = (MovesNoneOf plain text → IsDue 80 s) × ((moved : Option ℕ) → IsPartition plain text moved → (s ≡ 2) ⊎ IsDue 0 s)
+
+-- it isn't the one that there is, or the partition is next
+abbrev pub DueByScript : Names → Files → Plain → ℕ → List ℕ → Type 0
+DueByScript names files plain s script =
+    (script ≢ no_script → IsDue 80 s) × (script ≡ no_script → DueByNext (files names.partition) longest_text s (DueByPartition plain s))
+
+-- it is no plain file, or the script is next
+abbrev pub DueByFile : Names → Files → ℕ → List ℕ → Type 0
+DueByFile names files s file =
+    (IsNotPlain file → IsDue 80 s) × ((plain : Plain) → IsPlain file plain → DueByNext (files names.script) longest_text s (DueByScript names files plain s))
+
+abbrev pub DueByFiles : Names → Files → ℕ → Type 0
+DueByFiles names files s = DueByNext (files names.file) longest_file s (DueByFile names files s)
+
+-- ---- what was written
+
 -- the file ran, and this was written
 pub record RanThere (names : Names) (old : Outside) (s : ℕ) (new : Outside) (untouched trusted : Type 0) : Type 0 where
   pub file : List ℕ
@@ -87,6 +114,8 @@ pub record RanThere (names : Names) (old : Outside) (s : ℕ) (new : Outside) (u
   pub transparent : trusted → Returns file report
 
 pub record OffloadsFiles (names : Names) (old : Outside) (s : ℕ) (new : Outside) (untouched trusted : Type 0) : Type 0 where
+  -- where the files are told, the status is due by them
+  pub due : IfSome old.known.files (λ files. DueByFiles names files s)
   -- it ran to its end, or stopped; no plain file throws
   pub ran : (s ≡ 0) ⊎ (s ≡ 2) → RanThere names old s new untouched trusted
   pub never_throws : s ≢ 1

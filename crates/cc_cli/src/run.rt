@@ -10,6 +10,7 @@ ghost use Rattle.cc_cli.specs.Statuses.{Statuses, Transparent};
 
 use crate::command::plan;
 use cc_link::Link;
+use cc_meaning_plain::law_plain_once;
 use cc_outside::{Shelf, Sink};
 use cc_plan::carry_out;
 use std::alloc::Global;
@@ -53,6 +54,7 @@ pub fn run_words<S: Shelf, O: Sink, N: Sink, L: Link>(
     ensures calls { links.NeverFall (L.counts link.old) (L.counts link.new) }
     ensures honest { L.honest link.old ↔ L.honest link.new }
 {
+    law_plain_once();
     match plan(alloc, words, shelf, link) {
         Some(plan) => carry_out(&plan, out, notes),
         None => 70,

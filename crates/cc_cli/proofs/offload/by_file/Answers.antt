@@ -1,7 +1,5 @@
-use Rattle.std.proofs.Common.{inl, inr, refl, subst, List, ℕ, ◌≡◌, sym}
-use Rattle.cc_meaning_plain.specs.Plain.{IsPlain}
+use Rattle.std.proofs.Common.{inl, inr, refl, subst}
 use Rattle.cc_meaning_plain.specs.Laws.{AreBytes}
-use Rattle.cc_cli.specs.Plans.{IsNotPlain}
 use Rattle.cc_cli.proofs.Offloading.{on_plan, found_plain, found_none}
 use Rattle.cc_cli.proofs.offload.by_file.Goals as goal
 

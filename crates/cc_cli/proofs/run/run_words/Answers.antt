@@ -10,7 +10,7 @@ returns-in-Some-clause-statuses g c =
     let new : Outside = record { known = g.S.Shelf.known c.plan.new.shelf; counts = g.S.Shelf.counts c.plan.new.shelf; link = g.L.Link.known c.plan.new.link; calls = g.L.Link.counts c.plan.new.link; out = g.O.Sink.pipe c.carry_out.new.out; notes = g.N.Sink.pipe c.carry_out.new.notes } in
     let U : Type 0 = c.plan.new.link ≡ c.args.link.now in
     let T : Type 0 = g.L.Link.honest c.args.link.now × (g.L.Link.known c.args.link.now ≡ told [] []) in
-    statuses (map string_bytes c.args.words.now) old new c.carry_out.result U T (c.in-Some.plan, c.in-Some.ensures.plan, c.carry_out.ensures.ends)
+    statuses c.law_plain_once.ensures (map string_bytes c.args.words.now) old new c.carry_out.result U T (c.in-Some.plan, c.in-Some.ensures.plan, c.carry_out.ensures.ends)
 
 pub returns-in-None-clause-runs : goal.returns-in-None-clause-runs
 returns-in-None-clause-runs g c =
@@ -26,7 +26,7 @@ returns-in-None-clause-statuses g c =
     let new : Outside = record { known = g.S.Shelf.known c.plan.new.shelf; counts = g.S.Shelf.counts c.plan.new.shelf; link = g.L.Link.known c.plan.new.link; calls = g.L.Link.counts c.plan.new.link; out = g.O.Sink.pipe c.args.out.now; notes = g.N.Sink.pipe c.args.notes.now } in
     let U : Type 0 = c.plan.new.link ≡ c.args.link.now in
     let T : Type 0 = g.L.Link.honest c.args.link.now × (g.L.Link.known c.args.link.now ≡ told [] []) in
-    statuses (map string_bytes c.args.words.now) old new 70 U T (no_plan (map string_bytes c.args.words.now) old new U T refl refl)
+    statuses c.law_plain_once.ensures (map string_bytes c.args.words.now) old new 70 U T (no_plan (map string_bytes c.args.words.now) old new U T refl refl)
 
 pub returns-in-Some-clause-transparent : goal.returns-in-Some-clause-transparent
 returns-in-Some-clause-transparent g c names e honest fresh =
@@ -34,7 +34,7 @@ returns-in-Some-clause-transparent g c names e honest fresh =
     let new : Outside = record { known = g.S.Shelf.known c.plan.new.shelf; counts = g.S.Shelf.counts c.plan.new.shelf; link = g.L.Link.known c.plan.new.link; calls = g.L.Link.counts c.plan.new.link; out = g.O.Sink.pipe c.carry_out.new.out; notes = g.N.Sink.pipe c.carry_out.new.notes } in
     let U : Type 0 = c.plan.new.link ≡ c.args.link.now in
     let T : Type 0 = g.L.Link.honest c.args.link.now × (g.L.Link.known c.args.link.now ≡ told [] []) in
-    transparent (map string_bytes c.args.words.now) old new c.carry_out.result U T (c.in-Some.plan, c.in-Some.ensures.plan, c.carry_out.ensures.ends) names e (honest, fresh)
+    transparent c.law_plain_once.ensures (map string_bytes c.args.words.now) old new c.carry_out.result U T (c.in-Some.plan, c.in-Some.ensures.plan, c.carry_out.ensures.ends) names e (honest, fresh)
 
 pub returns-in-None-clause-transparent : goal.returns-in-None-clause-transparent
 returns-in-None-clause-transparent g c names e honest fresh =
@@ -42,4 +42,4 @@ returns-in-None-clause-transparent g c names e honest fresh =
     let new : Outside = record { known = g.S.Shelf.known c.plan.new.shelf; counts = g.S.Shelf.counts c.plan.new.shelf; link = g.L.Link.known c.plan.new.link; calls = g.L.Link.counts c.plan.new.link; out = g.O.Sink.pipe c.args.out.now; notes = g.N.Sink.pipe c.args.notes.now } in
     let U : Type 0 = c.plan.new.link ≡ c.args.link.now in
     let T : Type 0 = g.L.Link.honest c.args.link.now × (g.L.Link.known c.args.link.now ≡ told [] []) in
-    transparent (map string_bytes c.args.words.now) old new 70 U T (no_plan (map string_bytes c.args.words.now) old new U T refl refl) names e (honest, fresh)
+    transparent c.law_plain_once.ensures (map string_bytes c.args.words.now) old new 70 U T (no_plan (map string_bytes c.args.words.now) old new U T refl refl) names e (honest, fresh)
