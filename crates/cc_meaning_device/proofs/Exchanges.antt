@@ -15,7 +15,7 @@ use Rattle.cc_meaning_images.specs.Forms.{IsRunOf}
 use Rattle.cc_meaning_nodes.specs.Frames.{IsFrame, spelling, Rest, Frames, ends, with_frames, frames_after, frames_of, frames_from}
 use Rattle.cc_meaning_nodes.specs.FrameLaws.{GoesOn, IsReadAgain}
 use Rattle.cc_meaning_nodes.specs.Talk.{Open, replies_to, says, IsPrefixOf, SaidIsFront}
-use Rattle.cc_meaning_nodes.specs.Clone.{hello_kind, ready_kind, back_kind, refuse_kind, version, clone_answer, Waiting, Serving}
+use Rattle.cc_meaning_nodes.specs.Clone.{hello_kind, back_kind, refuse_kind, clone_answer, Waiting, Serving}
 use Rattle.cc_meaning_plain.specs.declared.plain.Plain.{Plain}
 use Rattle.cc_meaning_plain.specs.Laws.{AreBytes, PlainOnce}
 use Rattle.cc_meaning_plain.specs.Plain.{IsPlain}
@@ -25,6 +25,7 @@ use Rattle.cc_meaning_clone.specs.Served.{answered, served}
 use Rattle.cc_meaning_clone.specs.Functions.{AnsweredIs, RunsHaveParts, BacksAreShort}
 use Rattle.cc_meaning_clone.specs.Hello.{IsJudged, accepted, JudgedOnce}
 use Rattle.cc_meaning_clone.specs.Plain.{plain_clone, IsJudgedFirst}
+use Rattle.cc_meaning_device.specs.Complete.{ready_frame, back_frame}
 use Rattle.cc_meaning_device.specs.Honest.{IsAnswer, AnswersInOrder, IsReadAsItself, run_frame, requests, IsExchange, StreamAnswersInOrder}
 
 -- ---- fronts
@@ -33,15 +34,15 @@ front_of_front : (xs ys zs : List ℕ) → IsPrefixOf xs ys → IsPrefixOf ys zs
 front_of_front xs ys zs one two = (one.0 ++ two.0, sym (append_assoc xs one.0 two.0) ∙ ap (λ (front : List ℕ). front ++ two.0) one.1 ∙ two.1)
 
 -- a front of frames
-abbrev IsFront : List Frame → List Frame → Type 0
+abbrev pub IsFront : List Frame → List Frame → Type 0
 IsFront front frames = (rest : List Frame) × (front ++ rest ≡ frames)
 
-nothing_comes : frames_of [] ≡ ends (Rest [])
+pub nothing_comes : frames_of [] ≡ ends (Rest [])
 unfolding frames_after
 nothing_comes = refl
 
 -- what is read of a front of the spelling of frames is a front of them
-read_front : GoesOn → IsReadAgain → (frames : List Frame) (part : List ℕ) → AllByRecursion IsFrame frames → IsPrefixOf part (flat_map spelling frames) → IsFront (frames_of part).frames frames
+pub read_front : GoesOn → IsReadAgain → (frames : List Frame) (part : List ℕ) → AllByRecursion IsFrame frames → IsPrefixOf part (flat_map spelling frames) → IsFront (frames_of part).frames frames
 read_front goes_on again frames part are front =
     let all : frames_of (part ++ front.0) ≡ with_frames frames (frames_of []) = ap frames_of (front.1 ∙ sym (append-nil (flat_map spelling frames))) ∙ again frames [] are in
     let parts : frames_of (part ++ front.0) ≡ with_frames (frames_of part).frames (frames_from (frames_of part).ending front.0) = goes_on (Rest []) part front.0 in
@@ -55,21 +56,15 @@ same_in_front (x ∷ front) rest (suc i) frame e = same_in_front front rest i fr
 
 -- ---- what a clone answers
 
-abbrev ready_frame : Frame
-ready_frame = record { kind = ready_kind; payload = version ∷ [] }
-
-abbrev back_frame : Plain → RunImage → Frame
-back_frame plain image = record { kind = back_kind; payload = spelled_back (answered plain image) }
-
 abbrev refuse_frame : Frame
 refuse_frame = record { kind = refuse_kind; payload = 77 ∷ [] }
 
 -- a Back of each image that is read, up to the first one that isn't
-abbrev answer_by : Plain → List Frame → Result RunImage ImageFault → List Frame
+abbrev pub answer_by : Plain → List Frame → Result RunImage ImageFault → List Frame
 answer_by plain later (Ok image) = back_frame plain image ∷ later
 answer_by plain later (Err fault) = refuse_frame ∷ []
 
-answers : Plain → List RunImage → List Frame
+unfoldable pub answers : Plain → List RunImage → List Frame
 answers plain [] = []
 answers plain (image ∷ images) = answer_by plain (answers plain images) (read_run (program_of plain) (spelled_run image))
 
@@ -127,7 +122,7 @@ answers_answer plain (image ∷ images) h i frame e kind = by (answers_answer pl
     by later (Err fault) read (suc i) f = absurd cc
 
 -- each is a frame
-answers_are_frames : RunsHaveParts → AnsweredIs → BacksAreShort → (file : List ℕ) (plain : Plain) → AreBytes file → IsPlain file plain → (images : List RunImage) → AllByRecursion (IsReadAsItself plain) images →
+pub answers_are_frames : RunsHaveParts → AnsweredIs → BacksAreShort → (file : List ℕ) (plain : Plain) → AreBytes file → IsPlain file plain → (images : List RunImage) → AllByRecursion (IsReadAsItself plain) images →
     AllByRecursion IsFrame (answers plain images)
 unfolding answers
 answers_are_frames parts_of answers_is short file plain bytes is [] h = tt
@@ -178,7 +173,7 @@ module _ (goes_on : GoesOn) (again : IsReadAgain) (file : List ℕ) (plain : Pla
       ∙ ap (λ (fs : Frames). fs.frames) (again all [] requests_are_frames) ∙ ap (λ (fs : Frames). all ++ fs.frames) nothing_comes ∙ append-nil all
 
   -- the first frame that was sent is the Hello, so its verdict is the right one
-  verdict_is : JudgedOnce → PlainOnce → (first : Frame) (rest : List Frame) → (frames_of x.sent).frames ≡ first ∷ rest → x.verdict ≡ Ok plain
+  pub verdict_is : JudgedOnce → PlainOnce → (first : Frame) (rest : List Frame) → (frames_of x.sent).frames ≡ first ∷ rest → x.verdict ≡ Ok plain
   verdict_is once plain_once first rest e =
       let front = read_front goes_on again (hello_frame ∷ map run_frame images) x.sent requests_are_frames (x.is_sent.0, x.is_sent.1 ∙ spelled_requests x.hello images) in
       let same : first ≡ hello_frame = first_same first hello_frame (rest ++ front.0) (map run_frame images) (sym (ap (λ (fs : List Frame). fs ++ front.0) e) ∙ front.1) in
@@ -187,7 +182,7 @@ module _ (goes_on : GoesOn) (again : IsReadAgain) (file : List ℕ) (plain : Pla
       once plain_once x.hello x.verdict (Ok plain) judged (accepted plain x.is_hello)
 
   -- what was got is a front of what answers the images
-  got_front : ((verdict : Result Plain ℕ) → SaidIsFront (plain_clone verdict)) → x.verdict ≡ Ok plain → IsPrefixOf got (flat_map spelling (ready_frame ∷ answers plain images))
+  pub got_front : ((verdict : Result Plain ℕ) → SaidIsFront (plain_clone verdict)) → x.verdict ≡ Ok plain → IsPrefixOf got (flat_map spelling (ready_frame ∷ answers plain images))
   got_front said verdict =
       let more = said x.verdict (Open Waiting []) x.sent x.is_sent.0 in
       let front = front_of_front got _ _ x.is_got more in
@@ -198,7 +193,7 @@ module _ (goes_on : GoesOn) (again : IsReadAgain) (file : List ℕ) (plain : Pla
       (front.0, front.1 ∙ all)
 
   -- where the Hello didn't come whole, nothing was got
-  got_nothing : (frames_of x.sent).frames ≡ [] → got ≡ []
+  pub got_nothing : (frames_of x.sent).frames ≡ [] → got ≡ []
   got_nothing e = front_of_nothing got (x.is_got.0, x.is_got.1 ∙ ap (λ (fs : List Frame). replies_to (plain_clone x.verdict) (Ok Waiting) fs) e)
 
 pub stream_answers : GoesOn → IsReadAgain → ((verdict : Result Plain ℕ) → SaidIsFront (plain_clone verdict)) → JudgedOnce → PlainOnce → RunsHaveParts → AnsweredIs → BacksAreShort → StreamAnswersInOrder

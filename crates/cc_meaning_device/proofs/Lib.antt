@@ -1,4 +1,5 @@
 pub mod Backs
+pub mod Complete
 pub mod Counts
 pub mod Courses
 pub mod Entries

@@ -195,7 +195,7 @@ int_ending code n None fits = tt
 int_ending code n (Some left) fits = fits
 
 -- the image of a function's end is of the form
-end_is_back : (file : List ℕ) (plain : Plain) → AreBytes file → IsPlain file plain → (image : RunImage) (is : IsRunOf (program_of plain) image) (t : Target plain image) →
+pub end_is_back : (file : List ℕ) (plain : Plain) → AreBytes file → IsPlain file plain → (image : RunImage) (is : IsRunOf (program_of plain) image) (t : Target plain image) →
     IsBackOf (program_of plain) image (end_image (function_end t.function.code t.argument (less_by (instructions_of t.function.code) image.instructions)) (left_of (less_by (instructions_of t.function.code) image.instructions)) image)
 end_is_back file plain bytes is_plain image is t =
     let fine = function_is_fine file plain bytes is_plain t.place t.function t.stands in

@@ -5,6 +5,7 @@ pub mod Straight
 pub mod Entries
 pub mod Honest
 pub mod Transparent
+pub mod Complete
 pub mod Worked
 pub mod WorkedStraight
 pub mod WorkedAnswers

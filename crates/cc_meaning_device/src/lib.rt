@@ -9,12 +9,13 @@ ghost use Rattle.cc_meaning_device.specs.Straight.{PlainOffloads};
 ghost use Rattle.cc_meaning_device.specs.Entries.{EntryIsRun, EntryIsShort, FunctionsAreFew};
 ghost use Rattle.cc_meaning_device.specs.Honest.{HonestIsLocal, StreamAnswersInOrder};
 ghost use Rattle.cc_meaning_device.specs.Transparent.{NotedIsRead, CloneIsTransparent};
+ghost use Rattle.cc_meaning_device.specs.Complete.{StreamComesInOrder, NotedIsAnswered};
 ghost use Rattle.cc_meaning_device.specs.WorkedStraight.{GoesStraight};
 ghost use Rattle.cc_meaning_device.specs.WorkedAnswers.{JudgesAnswers};
 ghost use Rattle.cc_meaning_device.specs.Worked.{FollowsTheFrames, JudgesTheFrames, StopsWithin, CallsTwice};
 
 use cc_meaning_clone::{hello_laws, plain_laws, run_laws};
-use cc_meaning_images::{law_back_is_read, law_run_is_spelled};
+use cc_meaning_images::{law_back_is_read, law_run_is_read, law_run_is_spelled};
 use cc_meaning_nodes::frame_laws;
 use cc_meaning_plain::{law_function_runs, law_numbers_methods, law_plain_once};
 
@@ -108,6 +109,33 @@ pub fn law_clone_is_transparent()
     law_noted_is_read();
     law_stream_answers();
     law_honest_is_local();
+}
+
+/// What comes of an exchange with a clone of a plain file is a front of a Ready and of the Back of each image that was sent, and has no fault.
+pub fn law_stream_comes()
+    ensures { StreamComesInOrder }
+{
+    frame_laws::goes_on();
+    frame_laws::is_read_again();
+    plain_laws::talk_goes_on();
+    hello_laws::judged_once();
+    law_plain_once();
+    run_laws::runs_have_parts();
+    run_laws::answered_is();
+    run_laws::backs_are_short();
+}
+
+/// Each image that a plain file's run notes may be sent, and its Back is read as one of that Run.
+pub fn law_noted_is_answered()
+    ensures { NotedIsAnswered }
+{
+    law_plain_offloads();
+    law_entry_is_run();
+    law_run_is_read();
+    run_laws::runnable_is();
+    run_laws::runs_have_parts();
+    run_laws::answered_is();
+    law_back_is_read();
 }
 
 /// The run over received frames, at a worked example: a moved function adds 1 to 5, once or twice.

@@ -1,0 +1,56 @@
+-- Over an exchange with a clone of the same file, the frames that come are those that a device awaits, in their order, and each Back fits.
+use Rattle.std.specs.Prelude.{◌≡◌, ℕ, ◌≤◌, Bool, List, [], ◌∷◌, ◌++◌, map, Ok}
+use Rattle.std.specs.List.{AllByRecursion}
+use Rattle.cc_meaning.specs.declared.report.Limits.{Limits}
+use Rattle.cc_meaning.specs.declared.frame.Frame.{Frame}
+use Rattle.cc_meaning.specs.declared.image.RunImage.{RunImage}
+use Rattle.cc_meaning_images.specs.Spelling.{spelled_run, spelled_back}
+use Rattle.cc_meaning_images.specs.Reading.{read_run, read_back}
+use Rattle.cc_meaning_images.specs.Forms.{IsRunOf}
+use Rattle.cc_meaning_nodes.specs.Frames.{IsFrame, Rest, frames_of}
+use Rattle.cc_meaning_nodes.specs.Clone.{ready_kind, back_kind, version}
+use Rattle.cc_meaning_plain.specs.declared.plain.Plain.{Plain}
+use Rattle.cc_meaning_plain.specs.Laws.{AreBytes}
+use Rattle.cc_meaning_plain.specs.Plain.{IsPlain}
+use Rattle.cc_meaning_plain.specs.Program.{program_of}
+use Rattle.cc_meaning_clone.specs.Served.{answered}
+use Rattle.cc_meaning_device.specs.Honest.{run_frame, IsExchange}
+use Rattle.cc_meaning_device.specs.Transparent.{plain_offloaded}
+
+-- ---- the frames of a clone
+
+abbrev pub ready_frame : Frame
+ready_frame = record { kind = ready_kind; payload = version ∷ [] }
+
+abbrev pub back_frame : Plain → RunImage → Frame
+back_frame plain image = record { kind = back_kind; payload = spelled_back (answered plain image) }
+
+-- an image may be sent: it is one of a Run, fits in a frame, and is read of its bytes
+pub record IsSendable (plain : Plain) (image : RunImage) : Type 0 where
+  pub is_run : IsRunOf (program_of plain) image
+  pub fits : IsFrame (run_frame image)
+  pub read : read_run (program_of plain) (spelled_run image) ≡ Ok image
+
+-- its answer is read as one of this Run
+abbrev pub IsAnswerable : Plain → RunImage → Type 0
+IsAnswerable plain image = read_back (program_of plain) image (spelled_back (answered plain image)) ≡ Ok (answered plain image)
+
+-- what came is a front of a Ready and of the Back of each image, and no fault of bytes
+pub record ComesInOrder (plain : Plain) (images : List RunImage) (got : List ℕ) : Type 0 where
+  pub missing : List Frame
+  pub frames : (frames_of got).frames ++ missing ≡ ready_frame ∷ map (back_frame plain) images
+  pub rest : List ℕ
+  pub whole : (frames_of got).ending ≡ Rest rest
+
+-- ---- the laws
+
+-- so it is with what came of an exchange in which such images were sent
+abbrev pub StreamComesInOrder : Type 0
+StreamComesInOrder = (file : List ℕ) (plain : Plain) (images : List RunImage) (got : List ℕ) → AreBytes file → IsPlain file plain →
+    AllByRecursion (IsSendable plain) images → IsExchange plain images got → ComesInOrder plain images got
+
+-- the images that a plain file's run notes are such, and each has an answer that fits
+abbrev pub NotedIsAnswered : Type 0
+NotedIsAnswered = (file : List ℕ) (plain : Plain) (moves : ℕ → Bool) (limits : Limits) (frames : List Frame) → AreBytes file → IsPlain file plain → limits.instructions ≤ 4294967296 → limits.words ≤ 4194304 →
+    AllByRecursion (IsSendable plain) (plain_offloaded plain moves limits frames).received.images
+    × AllByRecursion (IsAnswerable plain) (plain_offloaded plain moves limits frames).received.images
