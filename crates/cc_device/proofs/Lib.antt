@@ -1,11 +1,12 @@
+pub mod Calls
+pub mod Complete
+pub mod Courses
 pub mod Exchanges
 pub mod Judged
-pub mod Reached
-pub mod Courses
 pub mod Keeping
+pub mod Offloaded
 pub mod Pauses
+pub mod Reached
+pub mod Stands
 pub mod Taken
 pub mod Travels
-pub mod Stands
-pub mod Calls
-pub mod Offloaded

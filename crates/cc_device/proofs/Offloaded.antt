@@ -175,23 +175,25 @@ judged_so goes_on again job plain sent images short hello p =
     ap (λ (xs : List ℕ). frames_of (xs ++ runs)) (sym (append-nil (frame_bytes hello_kind (hello_payload job)))) ∙ again (f ∷ []) runs (is_frame, tt) in
     first_is (frames_of sent).frames (frames_from (frames_of sent).ending p.0).frames (frames_of runs).frames f (Ok plain) (ap Frames.frames (sym parts ∙ ap frames_of p.1 ∙ all)) (accepted plain hello)
 
-pub is_local : (law : CloneIsTransparent) (goes_on : GoesOn) (again : IsReadAgain) (plain : Plain) (moved : Option ℕ) (job : Job) (report : Report) (travel : Travel) (k : Known) (old : Counts) (k' : Known) (new : Counts) (untouched : Type 0) → IsOfFile plain →
-    job.limits.instructions ≤ 4294967296 → job.limits.words ≤ 4194304 → length (hello_payload job) ≤ 67108864 →
-    IsHonestLink k' → k ≡ told [] [] → IsHelloOf (hello_payload job) plain → Offloads plain moved job report travel k old k' new untouched → IsLocal plain job.limits report
-is_local law goes_on again plain moved job report travel k old k' new untouched f few small short honest fresh hello o =
-    let known : k' ≡ told o.sent o.got = o.known ∙ ap (λ (j : Known). known_got o.got (known_sent o.sent j)) fresh in
-    let h = honest o.sent o.got known in
-    let fits : FitImages job.limits = record { instructions = omega (arith, few); words = omega (arith, small) } in
-    let sent = asked (program_of plain) job travel.fallback o.sent o.got (offloaded_over plain moved job.limits (frames_of o.got).frames).received.images old new o.travels in
-    let right = judged_so goes_on again job plain o.sent _ short hello sent in
-    let exchange : IsExchange plain (offloaded_over plain moved job.limits (frames_of o.got).frames).received.images o.got = record {
-      hello = hello_payload job;
-      is_hello = hello;
-      hello_is_short = short;
-      sent = o.sent;
-      is_sent = sent;
-      verdict = Ok plain;
-      is_verdict = right;
-      is_got = h.front (Ok plain) right;
-    } in
-    sym (law f.0 plain (moves_of plain moved) job.limits o.got f.1 f.2 fits exchange) ∙ o.reports
+module _ (goes_on : GoesOn) (again : IsReadAgain) (plain : Plain) (moved : Option ℕ) (job : Job) (report : Report) (travel : Travel) (k : Known) (old : Counts) (k' : Known) (new : Counts) (untouched : Type 0) (short : length (hello_payload job) ≤ 67108864) (honest : IsHonestLink k') (fresh : k ≡ told [] []) (hello : IsHelloOf (hello_payload job) plain) (o : Offloads plain moved job report travel k old k' new untouched) where
+  -- over an honest link what was got comes of an exchange in which the images were sent
+  pub exchange : IsExchange plain (offloaded_over plain moved job.limits (frames_of o.got).frames).received.images o.got
+  exchange =
+      let known : k' ≡ told o.sent o.got = o.known ∙ ap (λ (j : Known). known_got o.got (known_sent o.sent j)) fresh in
+      let sent = asked (program_of plain) job travel.fallback o.sent o.got (offloaded_over plain moved job.limits (frames_of o.got).frames).received.images old new o.travels in
+      let right = judged_so goes_on again job plain o.sent _ short hello sent in
+      record {
+        hello = hello_payload job;
+        is_hello = hello;
+        hello_is_short = short;
+        sent = o.sent;
+        is_sent = sent;
+        verdict = Ok plain;
+        is_verdict = right;
+        is_got = (honest o.sent o.got known).front (Ok plain) right;
+      }
+
+  pub is_local : CloneIsTransparent → IsOfFile plain → job.limits.instructions ≤ 4294967296 → job.limits.words ≤ 4194304 → IsLocal plain job.limits report
+  is_local law f few small =
+      let fits : FitImages job.limits = record { instructions = omega (arith, few); words = omega (arith, small) } in
+      sym (law f.0 plain (moves_of plain moved) job.limits o.got f.1 f.2 fits exchange) ∙ o.reports

@@ -26,6 +26,10 @@ pub snoc_some : {A : Type 0} (xs : List A) (x : A) → xs ++ x ∷ [] ≢ []
 snoc_some [] x e = absurd cc
 snoc_some (y ∷ ys) x e = absurd cc
 
+length_snoc : {A : Type 0} (xs : List A) (x : A) → length (xs ++ x ∷ []) ≡ suc (length xs)
+length_snoc [] x = refl
+length_snoc (y ∷ ys) x = ap suc (length_snoc ys x)
+
 flat_snoc : (images : List RunImage) (image : RunImage) → flat_map run_bytes (images ++ image ∷ []) ≡ flat_map run_bytes images ++ run_bytes image
 flat_snoc [] image = append-nil (run_bytes image)
 flat_snoc (i ∷ rest) image = ap (λ (xs : List ℕ). run_bytes i ++ xs) (flat_snoc rest image) ∙ sym (append_assoc (run_bytes i) (flat_map run_bytes rest) (run_bytes image))
@@ -53,6 +57,7 @@ pub record IsOpen (hello sent got : List ℕ) (images : List RunImage) : Type 0 
   pub ready : begins_ready (frames_of got).frames ≡ true
   pub whole : (frames_of got).ending ≡ Rest []
   pub all : sent ≡ hello ++ flat_map run_bytes images
+  pub many : length (frames_of got).frames ≡ suc (length images)
 
 module _ (goes_on : GoesOn) (nothing : NothingMore) (whole : BeginsWithWhole) (p : Program) (hello : List ℕ) (patience : ℕ) (old new : Counts) where
   more : (x y : List ℕ) → (frames_of x).ending ≡ Rest [] → frames_of (x ++ y) ≡ with_frames (frames_of x).frames (frames_of y)
@@ -85,6 +90,7 @@ module _ (goes_on : GoesOn) (nothing : NothingMore) (whole : BeginsWithWhole) (p
           all = ap (λ (xs : List ℕ). sent ++ xs) a.all ∙ sym (due_then _ behind);
           whole = ap Frames.ending (frames_then _ behind);
           ready = still_ready _ behind;
+          many = ap (λ (fs : Frames). length fs.frames) (frames_then _ behind) ∙ length_snoc (frames_of got).frames a.frame ∙ ap suc o.many ∙ sym (ap suc (length_snoc images image));
         }
 
     awaiting_ended : (e : LinkEnd) → AwaitingEnds got1 patience e old new → AwaitingEnded (got ++ got1) patience e old new × ((behind : Ending) × (frames_of got1 ≡ frames_end behind))
@@ -97,9 +103,9 @@ module _ (goes_on : GoesOn) (nothing : NothingMore) (whole : BeginsWithWhole) (p
     awaiting_ended (ends.Unfit fault) a = absurd a
     awaiting_ended (ends.Refused status) a = absurd a
 
-    judged_behind : (frames : List Frame) (frame : Frame) (e : LinkEnd) → begins_ready frames ≡ true → judge_back p image frame ≡ Err e → JudgedSo p frames (images ++ image ∷ []) frame e
-    judged_behind [] frame e r j = absurd cc
-    judged_behind (first ∷ rest) frame e r j = (images, image, refl, j)
+    judged_behind : (frames : List Frame) (frame : Frame) (e : LinkEnd) → length frames ≡ suc (length images) → judge_back p image frame ≡ Err e → JudgedSo p frames (images ++ image ∷ []) frame e
+    judged_behind [] frame e many j = absurd cc
+    judged_behind (first ∷ rest) frame e many j = (images, image, refl, omega (arith, many), j)
 
     pub ends_behind : (e : LinkEnd) → EndsSo (judge_back p image) (run_bytes image) patience sent1 got1 e old new → EndsTravel p hello patience (sent ++ sent1) (got ++ got1) (images ++ image ∷ []) e old new
     ends_behind e (in_sending front none why) =
@@ -111,7 +117,7 @@ module _ (goes_on : GoesOn) (nothing : NothingMore) (whole : BeginsWithWhole) (p
     ends_behind e (by_frame frame all stands judged) =
         let behind = one got1 frame stands in
         ends_by_frame (frames_of got).frames frame (ap (λ (xs : List ℕ). sent ++ xs) all ∙ sym (due_then _ behind)) (ap Frames.ending (frames_then _ behind)) (ap Frames.frames (frames_then _ behind))
-        (judged_behind (frames_of got).frames frame e o.ready judged)
+        (judged_behind (frames_of got).frames frame e o.many judged)
 
   -- ---- the opening
 
@@ -122,6 +128,7 @@ module _ (goes_on : GoesOn) (nothing : NothingMore) (whole : BeginsWithWhole) (p
         ready = ap (λ (fs : Frames). begins_ready fs.frames) frames ∙ ready_is ready judged;
         whole = ap Frames.ending frames;
         all = sym (append-nil hello);
+        many = ap (λ (fs : Frames). length fs.frames) frames;
       }
 
   closed_ended : (got : List ℕ) (e : LinkEnd) → AwaitingEnds got patience e old new → AwaitingEnded got patience e old new × ((behind : Ending) × (frames_of got ≡ frames_end behind))
@@ -148,7 +155,7 @@ module _ (goes_on : GoesOn) (nothing : NothingMore) (whole : BeginsWithWhole) (p
   -- ---- both
 
   open_of : (sent got : List ℕ) (images : List RunImage) → TravelsOn hello sent got images → IsOpen hello sent got images
-  open_of sent got images t = record { ready = t.ready; whole = t.whole; all = t.all ∙ due_open hello (frames_of got).frames images t.ready }
+  open_of sent got images t = record { ready = t.ready; whole = t.whole; all = t.all ∙ due_open hello (frames_of got).frames images t.ready; many = t.many }
 
   -- how the device stood before
   abbrev pub StoodSo : Bool → (sent got : List ℕ) → List RunImage → Type 0

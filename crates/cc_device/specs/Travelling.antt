@@ -154,10 +154,10 @@ due hello frames images = hello ++ cond (begins_ready frames) (flat_map run_byte
 
 -- ---- how a travel ends
 
--- the frame that came last is none that was awaited: the first one is to be a Ready, each later one the Back of the last image
+-- the frame that came last is none that was awaited: the first one is to be a Ready, each later one the Back of the image of its place, which is the last
 abbrev pub JudgedSo : Program → (before : List Frame) → List RunImage → Frame → LinkEnd → Type 0
 JudgedSo p [] images frame e = judge_ready frame ≡ Err e
-JudgedSo p (first ∷ rest) images frame e = (others : List RunImage) × (image : RunImage) × (images ≡ others ++ image ∷ []) × (judge_back p image frame ≡ Err e)
+JudgedSo p (first ∷ rest) images frame e = (others : List RunImage) × (image : RunImage) × (images ≡ others ++ image ∷ []) × (length rest ≡ length others) × (judge_back p image frame ≡ Err e)
 
 -- why no frame came that was awaited
 abbrev pub AwaitingEnded : (got : List ℕ) → ℕ → LinkEnd → Counts → Counts → Type 0
@@ -178,12 +178,13 @@ pub data EndsTravel (p : Program) (hello : List ℕ) (patience : ℕ) (sent got 
   by_frame : (before : List Frame) (frame : Frame) → sent ≡ due hello (frames_of got).frames images → (frames_of got).ending ≡ Rest [] → (frames_of got).frames ≡ before ++ frame ∷ [] →
       JudgedSo p before images frame e → EndsTravel p hello patience sent got images e old new
 
--- all that is due was sent, and each answer came whole
+-- all that is due was sent, and each answer came whole: a Ready, and one for each image
 pub record TravelsOn (hello sent got : List ℕ) (images : List RunImage) : Type 0 where
   pub some : images ≢ []
   pub all : sent ≡ due hello (frames_of got).frames images
   pub whole : (frames_of got).ending ≡ Rest []
   pub ready : begins_ready (frames_of got).frames ≡ true
+  pub many : length (frames_of got).frames ≡ suc (length images)
 
 -- no moved method was entered, and nothing was sent or got
 pub record StaysHome (sent got : List ℕ) (images : List RunImage) : Type 0 where
@@ -252,3 +253,12 @@ pub record Offloads (plain : Plain) (moved : Option ℕ) (job : Job) (report : R
 -- the report is that of the run on one heap
 abbrev pub IsLocal : Plain → Limits → Report → Type 0
 IsLocal plain limits report = local (setting_of plain) [] limits ≡ Some report
+
+-- a call of the link failed, moved nothing, or gave the end
+abbrev pub SomeRose : Counts → Counts → Type 0
+SomeRose old new = Rose old.faults new.faults ⊎ (Rose old.stalls new.stalls ⊎ (Rose old.waits new.waits ⊎ Rose old.ends new.ends))
+
+-- a device that falls back does so where such a count rose
+abbrev pub FallsOnlySo : Option LinkEnd → Counts → Counts → Type 0
+FallsOnlySo None old new = Unit {0}
+FallsOnlySo (Some e) old new = SomeRose old new

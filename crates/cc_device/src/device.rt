@@ -9,7 +9,7 @@ ghost use Rattle.cc_meaning_images.specs.Spelling.{spelled_run};
 ghost use Rattle.cc_meaning_plain.specs.Program.{program_of};
 ghost use Rattle.cc_meaning_device.specs.Received.{Received};
 ghost use Rattle.cc_machine.specs.Going.{is_stop};
-ghost use Rattle.cc_device.specs.Travelling.{IsOfFile, hello_payload, moves_of, course_from, paused_course, behind_call, stops_in, Keeps, CallsThere, CallDone, begun_course, IsLater, Stood, Offloads, IsLocal};
+ghost use Rattle.cc_device.specs.Travelling.{IsOfFile, hello_payload, moves_of, course_from, paused_course, behind_call, stops_in, Keeps, CallsThere, CallDone, begun_course, IsLater, Stood, Offloads, IsLocal, FallsOnlySo};
 
 use crate::capture::{came_of, entry_image};
 use crate::contact::{Contact, reach};
@@ -23,7 +23,7 @@ use cc_meaning::report::{Ending, Report};
 use cc_meaning::travel::Travel;
 use cc_meaning_device::{
     law_clone_is_transparent, law_entry_is_run, law_entry_is_short, law_functions_are_few,
-    law_plain_offloads,
+    law_noted_is_answered, law_plain_offloads, law_stream_comes,
 };
 use cc_meaning_nodes::frame_laws;
 use cc_meaning_plain::Plain;
@@ -300,11 +300,16 @@ pub fn offload<L: Link>(
     // Over a fresh and honest link, to whose clone the same file was sent, the report is that of the run on one heap.
     ensures transparent { IfOk result (λ done. L.honest link.old → L.known link.old ≡ told [] [] →
         IsHelloOf (hello_payload job.now) plain.now → IsLocal plain.now job.now.limits done.0) }
+    // Over such a link the device falls back only where a count of the link rose: a call failed, moved nothing, or gave the end.
+    ensures complete { IfOk result (λ done. L.honest link.old → L.known link.old ≡ told [] [] →
+        IsHelloOf (hello_payload job.now) plain.now → FallsOnlySo done.1.fallback (L.counts link.old) (L.counts link.new)) }
     ensures counts { NeverFall (L.counts link.old) (L.counts link.new) }
     ensures honest { L.honest link.old ↔ L.honest link.new }
 {
     law_plain_offloads();
     law_clone_is_transparent();
+    law_stream_comes();
+    law_noted_is_answered();
     frame_laws::goes_on();
     frame_laws::is_read_again();
     let mut machine = Machine::start(alloc, plain, job.limits)?;

@@ -1,4 +1,5 @@
 use Rattle.std.proofs.Common.{◌≡◌, rules}
+use Rattle.cc_device.proofs.Complete.{is_complete}
 use Rattle.cc_device.proofs.Offloaded.{stands_first, offloads_so, is_local}
 use Rattle.cc_device.proofs.device.offload.Goals as goal
 
@@ -18,5 +19,14 @@ returns-clause-transparent g c =
     let known = g.L.Link.known in
     let counts = g.L.Link.counts in
     λ honest fresh hello.
-    is_local c.law_clone_is_transparent.ensures c.goes_on.ensures c.is_read_again.ensures c.args.plain.now c.args.moved c.args.job.now c.report-report.result _ (known c.args.link.now) (counts c.args.link.now) (known c.drive.new.link) (counts c.drive.new.link) (c.drive.new.link ≡ c.args.link.now)
-    c.requires.of_file c.requires.instructions c.requires.words c.requires.hello (g.met.L.Link.tells c.drive.new.link (c.drive.ensures.honest.0 honest)) fresh hello (returns-clause-offloads g c)
+    is_local c.goes_on.ensures c.is_read_again.ensures c.args.plain.now c.args.moved c.args.job.now c.report-report.result _ (known c.args.link.now) (counts c.args.link.now) (known c.drive.new.link) (counts c.drive.new.link) (c.drive.new.link ≡ c.args.link.now)
+    c.requires.hello (g.met.L.Link.tells c.drive.new.link (c.drive.ensures.honest.0 honest)) fresh hello (returns-clause-offloads g c)
+    c.law_clone_is_transparent.ensures c.requires.of_file c.requires.instructions c.requires.words
+
+pub returns-clause-complete : goal.returns-clause-complete
+returns-clause-complete g c =
+    let known = g.L.Link.known in
+    let counts = g.L.Link.counts in
+    λ honest fresh hello.
+    is_complete c.law_stream_comes.ensures c.law_noted_is_answered.ensures c.goes_on.ensures c.is_read_again.ensures c.args.plain.now c.args.moved c.args.job.now c.report-report.result _ (known c.args.link.now) (counts c.args.link.now) (known c.drive.new.link) (counts c.drive.new.link) (c.drive.new.link ≡ c.args.link.now)
+    c.requires.of_file c.requires.instructions c.requires.words c.requires.patient c.requires.hello (g.met.L.Link.tells c.drive.new.link (c.drive.ensures.honest.0 honest)) fresh hello (returns-clause-offloads g c)
