@@ -18,6 +18,7 @@ use Rattle.cc_meaning_plain.specs.Plain.{IsPlain}
 use Rattle.cc_meaning_plain.specs.Laws.{PlainOnce}
 use Rattle.cc_meaning_clone.specs.Hello.{no_script}
 use Rattle.cc_partition.specs.Partition.{IsPartition}
+use Rattle.cc_device.specs.Travelling.{FallsOnlySo}
 use Rattle.cc_cli.specs.declared.fault.Fault.{Fault}
 use Rattle.cc_cli.specs.declared.fault.Fault.TheVariants as faults
 use Rattle.cc_cli.specs.Faults.{status_of, fault_plan}
@@ -173,6 +174,7 @@ module _ (names : Names) (plan : Plan) (old new : Outside) (untouched trusted : 
     out = a.out ∙ ap (λ (p : Plan). more p.out old.out.text) o.is_plan.is_plan;
     notes = a.notes ∙ ap (λ (p : Plan). more p.notes old.notes.text) o.is_plan.is_plan;
     transparent = o.transparent;
+    complete = o.complete;
   }
 
   throws_by : Came → Planned → s ≢ 1
@@ -268,8 +270,8 @@ module _ (names : Names) (old new : Outside) (s : ℕ) (untouched trusted : Type
   }
     where
       done : There → (file : List ℕ) × (report : Report) × (travel : Travel) × IsFile old.known names.file file × Returns file report
-          × Wrote report.out old.out new.out × Wrote (returned_line ++ travel_line travel) old.notes new.notes
-      done r = (r.file, r.report, r.travel, r.is_file, r.transparent h, r.out, subst (λ (l : List ℕ). Wrote (l ++ travel_line r.travel) old.notes new.notes) (returned_words r (r.transparent h)) r.notes)
+          × Wrote report.out old.out new.out × Wrote (returned_line ++ travel_line travel) old.notes new.notes × FallsOnlySo travel.fallback old.calls new.calls
+      done r = (r.file, r.report, r.travel, r.is_file, r.transparent h, r.out, subst (λ (l : List ℕ). Wrote (l ++ travel_line r.travel) old.notes new.notes) (returned_words r (r.transparent h)) r.notes, r.complete h)
 
       stops : There → s ≡ 2 → ⊥
       stops r z = omega (arith, returned_status r (r.transparent h), z)

@@ -17,7 +17,7 @@ use Rattle.cc_meaning_plain.specs.Laws.{AreBytes, PlainReturns, default_limits}
 use Rattle.cc_meaning_clone.specs.Hello.{with_length, no_script, IsHelloOf}
 use Rattle.cc_meaning_ends.specs.Ends.{PlainEnds}
 use Rattle.cc_partition.specs.Partition.{IsPartition, moves_none, moves_one}
-use Rattle.cc_device.specs.Travelling.{hello_payload, moves_of, Offloads, IsLocal}
+use Rattle.cc_device.specs.Travelling.{hello_payload, moves_of, Offloads, IsLocal, FallsOnlySo}
 use Rattle.cc_cli.specs.Plans.{Returns}
 use Rattle.cc_cli.specs.Offloading.{job_of, OffloadedPlan, Offloaded}
 
@@ -81,13 +81,14 @@ moves_within plain text moved (moves_one j function name at spells e) i h = subs
 
 pub ran_there : (place : List ℕ) (k : link.Known) (old : link.Counts) (k' : link.Known) (new : link.Counts) (untouched trusted : Type 0) (file : List ℕ) (plain : Plain) (moved : Option ℕ)
     (report : Report) (travel : Travel) (job : Job) (made : Result Plan AllocError) → job ≡ job_of file place → Offloads plain moved job report travel k old k' new untouched
-    → (trusted → Returns file report) → IfOk made (λ plan. OffloadedPlan report travel plan)
+    → (trusted → Returns file report) → (trusted → FallsOnlySo travel.fallback old new) → IfOk made (λ plan. OffloadedPlan report travel plan)
     → IfOk made (λ plan. Offloaded place k old k' new untouched trusted file plain moved plan)
-ran_there place k old k' new untouched trusted file plain moved report travel job (Ok plan) is o t p = record {
+ran_there place k old k' new untouched trusted file plain moved report travel job (Ok plan) is o t falls p = record {
   report = report;
   travel = travel;
   offloads = subst (λ (j : Job). Offloads plain moved j report travel k old k' new untouched) is o;
   is_plan = p;
   transparent = t;
+  complete = falls;
 }
-ran_there place k old k' new untouched trusted file plain moved report travel job (Err end) is o t p = tt
+ran_there place k old k' new untouched trusted file plain moved report travel job (Err end) is o t falls p = tt

@@ -17,7 +17,7 @@ use Rattle.cc_meaning_plain.specs.Plain.{IsPlain}
 use Rattle.cc_meaning_plain.specs.Laws.{default_limits}
 use Rattle.cc_meaning_clone.specs.Hello.{no_script}
 use Rattle.cc_partition.specs.Partition.{IsPartition}
-use Rattle.cc_device.specs.Travelling.{Offloads}
+use Rattle.cc_device.specs.Travelling.{Offloads, FallsOnlySo}
 use Rattle.cc_cli.specs.declared.fault.Fault.TheVariants as faults
 use Rattle.cc_cli.specs.Faults.{fault_plan}
 use Rattle.cc_cli.specs.Plans.{IsNotPlain, Returns}
@@ -85,13 +85,15 @@ pub record OffloadedPlan (report : Report) (travel : Travel) (plan : Plan) : Typ
 abbrev pub MovesNoneOf : Plain → List ℕ → Type 0
 MovesNoneOf plain text = (moved : Option ℕ) → IsPartition plain text moved → ⊥
 
--- The run over what was sent and got on the link. Where the link is trusted, its report is that of the run on one heap.
+-- The run over what was sent and got on the link. Where the link is trusted, its report is that of the run on one heap, and the device falls back only where a
+-- count of the link rose.
 pub record Offloaded (place : List ℕ) (k : link.Known) (before : link.Counts) (k' : link.Known) (after : link.Counts) (untouched trusted : Type 0) (file : List ℕ) (plain : Plain) (moved : Option ℕ) (plan : Plan) : Type 0 where
   pub report : Report
   pub travel : Travel
   pub offloads : Offloads plain moved (job_of file place) report travel k before k' after untouched
   pub is_plan : OffloadedPlan report travel plan
   pub transparent : trusted → Returns file report
+  pub complete : trusted → FallsOnlySo travel.fallback before after
 
 -- by the text of the partition: it says nothing of the file, and the link is untouched; or the file runs
 abbrev pub TextPlan : (place : List ℕ) → link.Known → link.Counts → link.Known → link.Counts → (untouched trusted : Type 0) → (file : List ℕ) → Plain → (text : List ℕ) → Plan → Type 0

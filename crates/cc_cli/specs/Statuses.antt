@@ -9,7 +9,7 @@ use Rattle.cc_meaning_lines.specs.Lines.{returned_line}
 use Rattle.cc_meaning_lines.specs.Travel.{ended_line, ended_status, travel_line}
 use Rattle.cc_meaning_clone.specs.Hello.{no_script}
 use Rattle.cc_partition.specs.Partition.{IsPartition}
-use Rattle.cc_device.specs.Travelling.{Offloads}
+use Rattle.cc_device.specs.Travelling.{Offloads, FallsOnlySo}
 use Rattle.cc_meaning_plain.specs.declared.plain.Plain.{Plain}
 use Rattle.cc_meaning_plain.specs.Tables.{longest_file}
 use Rattle.cc_meaning_plain.specs.Plain.{IsPlain}
@@ -112,6 +112,7 @@ pub record RanThere (names : Names) (old : Outside) (s : ℕ) (new : Outside) (u
   pub out : Wrote report.out old.out new.out
   pub notes : Wrote (ended ++ travel_line travel) old.notes new.notes
   pub transparent : trusted → Returns file report
+  pub complete : trusted → FallsOnlySo travel.fallback old.calls new.calls
 
 pub record OffloadsFiles (names : Names) (old : Outside) (s : ℕ) (new : Outside) (untouched trusted : Type 0) : Type 0 where
   -- where the files are told, the status is due by them
@@ -146,8 +147,8 @@ pub record Statuses (words : List (List ℕ)) (old : Outside) (s : ℕ) (new : O
 -- ---- what offloading is for
 
 -- Over a fresh link that tells that it gives a front of a clone's answers, a program that ran wrote what the run on one heap writes, then how it ended, and then
--- one line on the travel; and it returned.
+-- one line on the travel; and it returned. The line names a fallback only where, in this very call, a call of the link failed, moved nothing, or gave the end.
 pub record Transparent (names : Names) (old : Outside) (s : ℕ) (new : Outside) : Type 0 where
   pub done : s ≡ 0 → (file : List ℕ) × (report : Report) × (travel : Travel) × IsFile old.known names.file file × Returns file report
-      × Wrote report.out old.out new.out × Wrote (returned_line ++ travel_line travel) old.notes new.notes
+      × Wrote report.out old.out new.out × Wrote (returned_line ++ travel_line travel) old.notes new.notes × FallsOnlySo travel.fallback old.calls new.calls
   pub never_stops : s ≢ 2

@@ -14,4 +14,5 @@ returns-in-Ok-clause-plan g c =
     ran_there job.place _ _ _ _ _ _ job.file c.args.plain.now c.args.moved c.in-Ok.report c.in-Ok.travel job c.offloaded_plan.result c.requires.job c.in-Ok.ensures.offloads
     (λ t. returned c.law_plain_returns.ensures job.file c.args.plain.now c.requires.bytes c.requires.plain c.in-Ok.report
     (within_default job.file c.args.plain.now c.requires.plain job.place job c.in-Ok.report c.requires.job
-    (c.in-Ok.ensures.transparent t.0 t.1 (hello_is job.file c.args.plain.now c.requires.plain job.place job c.requires.job)))) c.offloaded_plan.ensures
+    (c.in-Ok.ensures.transparent t.0 t.1 (hello_is job.file c.args.plain.now c.requires.plain job.place job c.requires.job))))
+    (λ t. c.in-Ok.ensures.complete t.0 t.1 (hello_is job.file c.args.plain.now c.requires.plain job.place job c.requires.job)) c.offloaded_plan.ensures
