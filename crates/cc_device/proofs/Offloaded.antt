@@ -26,6 +26,7 @@ use Rattle.cc_meaning_clone.specs.Plain.{IsVerdict, IsJudgedFirst}
 use Rattle.cc_meaning_device.specs.Received.{Received, not_opened, Offloaded, offloaded}
 use Rattle.cc_meaning_device.specs.Straight.{Course, course_within, plain_course, offloaded_by, plain_device, PlainOffloads}
 use Rattle.cc_meaning_device.specs.Honest.{run_frame, requests, IsExchange}
+use Rattle.cc_meaning_device.specs.Complete.{MergesEach}
 use Rattle.cc_meaning_device.specs.Transparent.{FitImages, CloneIsTransparent}
 use Rattle.cc_machine.specs.declared.progress.Progress.{Progress}
 use Rattle.cc_machine.specs.declared.progress.Pause.{Pause}
@@ -99,9 +100,9 @@ module _ (law : PlainOffloads) (plain : Plain) (moved : Option ℕ) (job : Job) 
   stays_home untouched (Some e) false t home none = absurd (t.0 none)
   stays_home untouched (Some e) true t home none = absurd (t.0 none)
 
-  pub offloads_so : (untouched : Type 0) (report : Report) → (contact.is_open ≡ false → contact.end ≡ None → untouched) → report ≡ stage_report job.limits (stage_ended p ends) →
+  pub offloads_so : MergesEach → (untouched : Type 0) (report : Report) → (contact.is_open ≡ false → contact.end ≡ None → untouched) → report ≡ stage_report job.limits (stage_ended p ends) →
       Offloads plain moved job report (record { migrations = contact.merged; fallback = contact.end }) k c k' c' untouched
-  offloads_so untouched report home is =
+  offloads_so merges untouched report home is =
       let o = comes_to in
       let images : (offloaded_over plain moved job.limits (frames_of s.got).frames).received.images ≡ s.images = ap (λ (x : Offloaded). x.received.images) o.1 in
       record {
@@ -112,6 +113,8 @@ module _ (law : PlainOffloads) (plain : Plain) (moved : Option ℕ) (job : Job) 
         migrations = ap (λ (x : Offloaded). x.received.merged) o.1;
         fallback = ap (λ (x : Offloaded). x.received.fallen) o.1;
         travels = subst (λ (xs : List RunImage). TravelsAs (program_of plain) (hello_bytes job) job.patience contact.end s.sent s.got xs c c') (sym images) (travels_as contact.end contact.is_open s.travels);
+        each = λ none. sym (ap (λ (x : Offloaded). x.received.merged) o.1)
+            ∙ merges f.0 plain (moves_of plain moved) job.limits (frames_of s.got).frames f.1 f.2 (ap (λ (x : Offloaded). x.received.fallen) o.1 ∙ ap is_some none);
         home = λ none. stays_home untouched contact.end contact.is_open s.travels home (sym images ∙ none);
       }
 

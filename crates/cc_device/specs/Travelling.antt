@@ -247,6 +247,8 @@ pub record Offloads (plain : Plain) (moved : Option ℕ) (job : Job) (report : R
   pub migrations : (offloaded_over plain moved job.limits (frames_of got).frames).received.merged ≡ travel.migrations
   pub fallback : (offloaded_over plain moved job.limits (frames_of got).frames).received.fallen ≡ is_some travel.fallback
   pub travels : TravelsAs (program_of plain) (hello_bytes job) job.patience travel.fallback sent got (offloaded_over plain moved job.limits (frames_of got).frames).received.images old new
+  -- where it didn't fall back, each entry of the moved method migrated
+  pub each : travel.fallback ≡ None → travel.migrations ≡ length (offloaded_over plain moved job.limits (frames_of got).frames).received.images
   -- where no moved method was entered, the link is as it was
   pub home : (offloaded_over plain moved job.limits (frames_of got).frames).received.images ≡ [] → untouched
 

@@ -23,7 +23,7 @@ use cc_meaning::report::{Ending, Report};
 use cc_meaning::travel::Travel;
 use cc_meaning_device::{
     law_clone_is_transparent, law_entry_is_run, law_entry_is_short, law_functions_are_few,
-    law_noted_is_answered, law_plain_offloads, law_stream_comes,
+    law_merges_each, law_noted_is_answered, law_plain_offloads, law_stream_comes,
 };
 use cc_meaning_nodes::frame_laws;
 use cc_meaning_plain::Plain;
@@ -310,6 +310,7 @@ pub fn offload<L: Link>(
     law_clone_is_transparent();
     law_stream_comes();
     law_noted_is_answered();
+    law_merges_each();
     frame_laws::goes_on();
     frame_laws::is_read_again();
     let mut machine = Machine::start(alloc, plain, job.limits)?;

@@ -9,6 +9,7 @@ pub mod Faithful
 pub mod Honest
 pub mod RightAnswers
 pub mod Kept
+pub mod Merges
 pub mod Noted
 pub mod Received
 pub mod Transparent

@@ -1,5 +1,5 @@
 -- Over an exchange with a clone of the same file, the frames that come are those that a device awaits, in their order, and each Back fits.
-use Rattle.std.specs.Prelude.{◌≡◌, ℕ, ◌≤◌, Bool, List, [], ◌∷◌, ◌++◌, map, Ok}
+use Rattle.std.specs.Prelude.{◌≡◌, ℕ, ◌≤◌, Bool, false, List, [], ◌∷◌, ◌++◌, length, map, Ok}
 use Rattle.std.specs.List.{AllByRecursion}
 use Rattle.cc_meaning.specs.declared.report.Limits.{Limits}
 use Rattle.cc_meaning.specs.declared.frame.Frame.{Frame}
@@ -54,3 +54,9 @@ abbrev pub NotedIsAnswered : Type 0
 NotedIsAnswered = (file : List ℕ) (plain : Plain) (moves : ℕ → Bool) (limits : Limits) (frames : List Frame) → AreBytes file → IsPlain file plain → limits.instructions ≤ 4294967296 → limits.words ≤ 4194304 →
     AllByRecursion (IsSendable plain) (plain_offloaded plain moves limits frames).received.images
     × AllByRecursion (IsAnswerable plain) (plain_offloaded plain moves limits frames).received.images
+
+-- where a run didn't fall back, a Back was merged for each image that it noted
+abbrev pub MergesEach : Type 0
+MergesEach = (file : List ℕ) (plain : Plain) (moves : ℕ → Bool) (limits : Limits) (frames : List Frame) → AreBytes file → IsPlain file plain →
+    (plain_offloaded plain moves limits frames).received.fallen ≡ false →
+    (plain_offloaded plain moves limits frames).received.merged ≡ length (plain_offloaded plain moves limits frames).received.images

@@ -9,7 +9,7 @@ ghost use Rattle.cc_meaning_device.specs.Straight.{PlainOffloads};
 ghost use Rattle.cc_meaning_device.specs.Entries.{EntryIsRun, EntryIsShort, FunctionsAreFew};
 ghost use Rattle.cc_meaning_device.specs.Honest.{HonestIsLocal, StreamAnswersInOrder};
 ghost use Rattle.cc_meaning_device.specs.Transparent.{NotedIsRead, CloneIsTransparent};
-ghost use Rattle.cc_meaning_device.specs.Complete.{StreamComesInOrder, NotedIsAnswered};
+ghost use Rattle.cc_meaning_device.specs.Complete.{StreamComesInOrder, NotedIsAnswered, MergesEach};
 ghost use Rattle.cc_meaning_device.specs.WorkedStraight.{GoesStraight};
 ghost use Rattle.cc_meaning_device.specs.WorkedAnswers.{JudgesAnswers};
 ghost use Rattle.cc_meaning_device.specs.Worked.{FollowsTheFrames, JudgesTheFrames, StopsWithin, CallsTwice};
@@ -136,6 +136,13 @@ pub fn law_noted_is_answered()
     run_laws::runs_have_parts();
     run_laws::answered_is();
     law_back_is_read();
+}
+
+/// Where a plain file's run didn't fall back, a Back was merged for each image that it noted.
+pub fn law_merges_each()
+    ensures { MergesEach }
+{
+    law_plain_offloads();
 }
 
 /// The run over received frames, at a worked example: a moved function adds 1 to 5, once or twice.

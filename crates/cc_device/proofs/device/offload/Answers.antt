@@ -12,7 +12,7 @@ returns-clause-offloads g c =
     let first = stands_first plain c.args.moved job c.in_ok-machine.machine c.begin.new.machine c.in_ok-first.first (known c.args.link.now) (counts c.args.link.now) (search rules) c.in_ok-first.ensures.course in
     let stood = c.in_ok-ending.ensures.stands (known c.args.link.now) (counts c.args.link.now) first in
     offloads_so c.law_plain_offloads.ensures plain c.args.moved job c.drive.new.contact c.drive.new.machine c.in_ok-ending.ending (known c.args.link.now) (counts c.args.link.now) (known c.drive.new.link) (counts c.drive.new.link) c.requires.of_file stood
-    (c.drive.new.link ≡ c.args.link.now) c.report-report.result c.in_ok-ending.ensures.home c.report-report.ensures
+    c.law_merges_each.ensures (c.drive.new.link ≡ c.args.link.now) c.report-report.result c.in_ok-ending.ensures.home c.report-report.ensures
 
 pub returns-clause-transparent : goal.returns-clause-transparent
 returns-clause-transparent g c =
