@@ -45,7 +45,7 @@ pub fn run_words<S: Shelf, O: Sink, N: Sink, L: Link>(
     ensures counts { NeverFall (S.counts shelf.old) (S.counts shelf.new) }
     ensures out { (O.pipe out.old).faults ≤ (O.pipe out.new).faults }
     ensures notes { (N.pipe notes.old).faults ≤ (N.pipe notes.new).faults }
-    // Over a fresh link that tells that its far side is a clone, `offload` writes what the run on one heap writes.
+    // Over a fresh link that tells that its far side is a clone, `offload` writes what the run on one heap writes, and it falls back only where a count of the link rose.
     ensures transparent { let before : Outside = record { known = S.known shelf.old; counts = S.counts shelf.old; link = L.known link.old; calls = L.counts link.old; out = O.pipe out.old; notes = N.pipe notes.old } in
         let after : Outside = record { known = S.known shelf.new; counts = S.counts shelf.new; link = L.known link.new; calls = L.counts link.new; out = O.pipe out.new; notes = N.pipe notes.new } in
         (names : Names) → offload_named (map string_bytes words.now) ≡ Some names → L.honest link.old → L.known link.old ≡ told [] [] → Transparent names before result after }
