@@ -1,5 +1,9 @@
 //! A run whose function is moved, over links that give right, wrong and no frames. Expected values are of published worked examples.
 
+ghost use Rattle.std.specs.Prelude.{◌≡◌, ◌≤◌, [], IfOk, IfSome};
+ghost use Rattle.cc_meaning_plain.specs.Laws.{AreBytes};
+ghost use Rattle.cc_meaning_plain.specs.Plain.{IsPlain};
+
 use crate::sample::{BACK, BACK_CUT, BACK_OF_SEVEN, FILE, LATER_READY, READY, REFUSE_70};
 use cc_device::{hello_fits, offload};
 use cc_link::{CannedEnd, CannedLink, Link};
@@ -10,6 +14,7 @@ use cc_meaning::lists::{ArgTexts, Bytes};
 use cc_meaning::report::{Ending, Limits, Report, StopCause};
 use cc_meaning::text::Text;
 use cc_meaning::travel::{Happening, Happenings, LinkEnd, Travel};
+use cc_meaning_plain::Plain;
 use cc_pair::PairLink;
 use cc_plain::read_plain;
 use std::alloc::{AllocError, Global};
@@ -21,7 +26,13 @@ const LIMITS: Limits = Limits {
     words: 100,
 };
 
-fn job(alloc: Global, instructions: u64, patience: u32) -> Result<Job, AllocError> {
+/// A job of the file, of at most 1,000 instructions and with some patience.
+fn job(alloc: Global, instructions: u64, patience: u32) -> Result<Job, AllocError>
+    ensures arguments { IfOk result (λ job. job.args ≡ []) }
+    ensures instructions { IfOk result (λ job. job.limits.instructions ≤ 4294967296) }
+    ensures words { IfOk result (λ job. job.limits.words ≤ 4194304) }
+    ensures patient { IfOk result (λ job. 1 ≤ job.patience) }
+{
     Ok(Job {
         file: Bytes::from_slice(alloc, &FILE)?,
         script: Bytes::from_slice(alloc, b"{\"classes\":[]}")?,
@@ -57,7 +68,36 @@ fn word(end: Option<LinkEnd>) -> (&'static str, u32) {
     }
 }
 
-/// The run of the file with its function moved, or not, and how it fared.
+/// The plain file that bytes are, or none.
+fn plain_of(alloc: Global, file: &[u8]) -> Result<Option<Plain>, AllocError>
+    ensures bytes { AreBytes file.now }
+    ensures plain { IfOk result (λ found. IfSome found (λ plain. IsPlain file.now plain)) }
+{
+    read_plain(alloc, file)
+}
+
+/// The run of a file with its one function moved, or not, and how it fared.
+fn run_file<L: Link>(
+    rt: &impl Abort,
+    alloc: Global,
+    file: &[u8],
+    is_moved: bool,
+    job: &Job,
+    link: &mut L,
+) -> Result<(Report, Travel), Fail>
+    requires arguments { job.now.args ≡ [] }
+    requires instructions { job.now.limits.instructions ≤ 4294967296 }
+    requires words { job.now.limits.words ≤ 4194304 }
+    requires patient { 1 ≤ job.now.patience }
+{
+    let plain = plain_of(alloc, file)?.expect(rt, "the file is plain");
+    assert!(rt; hello_fits(job));
+    assert!(rt; plain.functions.len() == 1);
+    let moved = if is_moved { Some(0) } else { None };
+    Ok(offload(alloc, &plain, moved, job, link)?)
+}
+
+/// The same of the sample, within so many instructions and with this patience.
 fn run<L: Link>(
     rt: &impl Abort,
     alloc: Global,
@@ -67,11 +107,7 @@ fn run<L: Link>(
     link: &mut L,
 ) -> Result<(Report, Travel), Fail> {
     let job = job(alloc, instructions, patience)?;
-    let plain = read_plain(alloc, &FILE)?.expect(rt, "the file is plain");
-    assert!(rt; hello_fits(&job));
-    assert!(rt; plain.functions.len() == 1);
-    let moved = if is_moved { Some(0) } else { None };
-    Ok(offload(alloc, &plain, moved, &job, link)?)
+    run_file(rt, alloc, &FILE, is_moved, &job, link)
 }
 
 /// Over a link that gives these bytes and then this end.
