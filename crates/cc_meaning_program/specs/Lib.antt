@@ -1,0 +1,9 @@
+pub mod Named
+pub mod Definitions
+pub mod ClassFaults
+pub mod Climbing
+pub mod ClassNames
+pub mod TypeNames
+pub mod Instructions
+pub mod References
+pub mod BodyFaults
