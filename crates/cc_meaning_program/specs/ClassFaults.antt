@@ -82,3 +82,13 @@ pub record AreSound (ids : Ids) (classes : List RawClass) : Type 0 where
   pub distinct : NoneIs (IsDuplicate ids classes)
   pub extended : NoneIs (LacksSuperclass ids)
   pub ordered : NoneIs (IsAboveItself ids)
+
+-- ---- laws
+
+-- a file's classes have one fault at most
+abbrev pub OneClassFault : Type 0
+OneClassFault = (ids : Ids) (classes : List RawClass) (this that : ProgramFault) → IsClassFault ids classes this → IsClassFault ids classes that → this ≡ that
+
+-- sound classes have none
+abbrev pub SoundClassesHaveNoFault : Type 0
+SoundClassesHaveNoFault = (ids : Ids) (classes : List RawClass) (fault : ProgramFault) → AreSound ids classes → ¬ IsClassFault ids classes fault

@@ -1,6 +1,8 @@
 //! What a file's tables and classes come to as a program: names, the hierarchy of its classes, its code; and each fault with its cause.
 #![tactic(auto)]
 
+mod class_laws;
 mod reference;
 
+pub use class_laws::{one_class_fault, sound_classes_have_no_fault, sound_classes_leave};
 pub use reference::Reference;

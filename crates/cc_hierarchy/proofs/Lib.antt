@@ -1,0 +1,10 @@
+pub mod BuiltInParts
+pub mod Certifying
+pub mod Defining
+pub mod Duplicating
+pub mod Extending
+pub mod Indexing
+pub mod NameOrder
+pub mod Repeating
+pub mod Searching
+pub mod Verdicts

@@ -1,0 +1,11 @@
+use Rattle.std.proofs.Common.{◌∙◌}
+use Rattle.std.proofs.lemmas.Result.{IfOk-weaker}
+use Rattle.cc_meaning_program.specs.Named.{field_member}
+use Rattle.cc_hierarchy.specs.Members.{member_of}
+use Rattle.cc_hierarchy.proofs.Duplicating.{mapped_iff}
+use Rattle.cc_hierarchy.proofs.duplicates.repeats_field.Goals as goal
+
+pub returns : goal.returns
+unfolding member_of
+returns c =
+    IfOk-weaker c.has_repeats.result _ _ (λ found h. mapped_iff (field_member c.args.ids.now) (λ field. field.row) c.args.fields.now c.as_slice.result.now found (c.as_slice.ensures.value ∙ c.in_ok-rows.ensures) h) c.has_repeats.ensures

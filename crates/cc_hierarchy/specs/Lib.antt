@@ -1,0 +1,4 @@
+pub mod Members
+pub mod Graphs
+pub mod Indexes
+pub mod Judging
