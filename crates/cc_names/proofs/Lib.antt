@@ -1,0 +1,6 @@
+pub mod Ordered
+pub mod Found
+pub mod Dims
+pub mod TextRows
+pub mod Candidacy
+pub mod Typing

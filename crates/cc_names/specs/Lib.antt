@@ -1,0 +1,4 @@
+pub mod InOrder
+pub mod Numbers
+pub mod Candidates
+pub mod Types
