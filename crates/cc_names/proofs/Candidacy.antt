@@ -160,13 +160,13 @@ given_is_class ids row name (type, within, at) (base is) =
 
 class_is_given : (ids : Ids) (name : List ℕ) → IsClassName ids name → ((row : ℕ) × Contains ids.types row × Gives ids row name) ⊎ Contains every_name name
 class_is_given ids name (listed {type} within is) =
-    let row = get_or ids.types type 0 in
-    let same = type_name_is ids type row within (get_or_default ids.types type row 0 within) in
-    inl (row, Contains-get_or ids.types type 0 within, subst (Gives ids row) (sym same) (whole (subst (λ n. names_reference n ≡ true) same is)))
+    let text = get_or ids.types type 0 in
+    let same = type_name_is ids type text within (get_or_default ids.types type text 0 within) in
+    inl (text, Contains-get_or ids.types type 0 within, subst (Gives ids text) (sym same) (whole (subst (λ n. names_reference n ≡ true) same is)))
 class_is_given ids name (element {type} within is) =
-    let row = get_or ids.types type 0 in
-    let same = type_name_is ids type row within (get_or_default ids.types type row 0 within) in
-    inl (row, Contains-get_or ids.types type 0 within, subst (λ n. Gives ids row (base_name n)) (sym same) (base (subst (λ n. names_class (base_name n) ≡ true) same is)))
+    let text = get_or ids.types type 0 in
+    let same = type_name_is ids type text within (get_or_default ids.types type text 0 within) in
+    inl (text, Contains-get_or ids.types type 0 within, subst (λ n. Gives ids text (base_name n)) (sym same) (base (subst (λ n. names_class (base_name n) ≡ true) same is)))
 class_is_given ids name (built_in is) = inr ((every_is name).1 (inl is))
 class_is_given ids name texts = inr ((every_is texts_name).1 (inr refl))
 

@@ -4,3 +4,5 @@ pub mod Dims
 pub mod TextRows
 pub mod Candidacy
 pub mod Typing
+pub mod Joining
+pub mod MemberPieces

@@ -3,12 +3,15 @@
 
 mod classes;
 mod listed;
+mod members;
 mod order;
+mod pieces;
 mod place;
 mod rows;
 mod types;
 
 pub use classes::class_names;
 pub use listed::{numbers_of_texts, texts};
+pub use members::{compare_fields, compare_methods, sorted_fields, sorted_methods};
 pub use place::find;
 pub use types::{type_of, types_of_rows};

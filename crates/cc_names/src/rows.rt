@@ -41,6 +41,17 @@ pub fn text(ids: &Ids, row: u32) -> &[u16]
     }
 }
 
+/// The descriptor of a row of types, which is empty where there is no such row.
+#[tactic(auto, unfolding(cc_meaning_program::specs::Named::type_name, cc_meaning_program::specs::Named::text_of))]
+pub fn type_name(ids: &Ids, row: u32) -> &[u16]
+    ensures { result.now ≡ type_name ids.now row }
+{
+    match ids.types.get(row as usize) {
+        Some(described) => text(ids, *described),
+        None => &[],
+    }
+}
+
 /// How many `[` stand in front.
 pub fn dims_of(name: &[u16]) -> usize
     ensures exact { result ≡ dims_of name.now }
