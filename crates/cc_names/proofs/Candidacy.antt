@@ -1,9 +1,9 @@
 -- Candidates, and the names that they have.
-use Rattle.std.proofs.Common.{◌≡◌, ◌↔◌, ◌⊎◌, inl, inr, ℕ, zero, suc, ◌+◌, ◌^◌, ◌<◌, Bool, true, false, cond, ◌||◌, List, [], ◌∷◌, ◌++◌, length, map, get_or, take, slice_get, unwrap_or, Option, Some, refl, sym, ap, subst, ◌∙◌, append_assoc, arith}
+use Rattle.std.proofs.Common.{◌≤◌, ◌≡◌, ◌↔◌, ◌⊎◌, inl, inr, ℕ, zero, suc, ◌+◌, ◌*◌, ◌<◌, Bool, true, false, cond, ◌||◌, List, [], ◌∷◌, ◌++◌, length, map, get_or, take, slice_get, unwrap_or, Option, Some, refl, sym, ap, subst, ◌∙◌, append_assoc, arith}
 use Rattle.std.specs.Prelude.{Contains, option_and_then}
 use Rattle.std.specs.List.{list_any, flat_map}
 use Rattle.std.specs.Str.{bytes_eq}
-use Rattle.std.proofs.lemmas.List.{map_push, map-append, take_more, get_or_default}
+use Rattle.std.proofs.lemmas.List.{length-append, length-map, map_push, map-append, take_more, get_or_default}
 use Rattle.std.proofs.lemmas.List.Elements.{Contains-get_or, Contains-append_left, Contains-append_right, Contains-append_cases}
 use Rattle.std.proofs.lemmas.Slice.Eq.{bytes_eq-Decides}
 use Rattle.std.proofs.lemmas.Option.{slice_get-get_or}
@@ -138,9 +138,32 @@ every_is name = (λ here. known (Contains-append_cases (names_of built_in_classe
     there (inl is) = Contains-append_left (names_of built_in_classes) (texts_name ∷ []) name ((any_named built_in_classes name).0 is)
     there (inr is) = subst (Contains (names_of built_in_classes ++ texts_name ∷ [])) (sym is) (Contains-append_right (names_of built_in_classes) (texts_name ∷ []) texts_name (0, omega arith, refl))
 
-pub few_names : length every_name < 2 ^ 32
+pub count_every : length every_name ≡ 27
 unfolding every_name built_in_classes built_in_plain_classes built_in_throwables
-few_names = omega arith
+count_every = refl
+
+-- ---- how many candidates there are
+
+one_at_most : (candidate : Candidate) (b : Bool) → length (cond b (candidate ∷ []) []) ≤ 1
+one_at_most candidate true = omega arith
+one_at_most candidate false = omega arith
+
+two_at_most : (ids : Ids) (row : ℕ) → length (candidates_of ids row) ≤ 2
+unfolding candidates_of whole_of base_of
+two_at_most ids row =
+    let first = one_at_most (Whole row) (names_reference (text_of ids row)) in
+    let second = one_at_most (Base row) (names_class (base_name (text_of ids row))) in
+    omega (arith, first, second, length-append (whole_of ids row) (base_of ids row))
+
+few_listed : (ids : Ids) (rows : List ℕ) → length (flat_map (candidates_of ids) rows) ≤ 2 * length rows
+few_listed ids [] = omega arith
+few_listed ids (row ∷ rows) = omega (arith, few_listed ids rows, two_at_most ids row, length-append (candidates_of ids row) (flat_map (candidates_of ids) rows))
+
+pub few_candidates : (ids : Ids) (every : List (List ℕ)) (rows : List ℕ) (listed_all all : List Candidate) → listed_all ≡ flat_map (candidates_of ids) rows →
+    map (candidate_name ids every) all ≡ map (candidate_name ids every) listed_all ++ every → length all ≤ 2 * length rows + length every
+few_candidates ids every rows listed_all all is added =
+    let names = candidate_name ids every in
+    omega (arith, ap length added, length-map all names, length-map listed_all names, length-append (map names listed_all) every, ap length is, few_listed ids rows)
 
 -- ---- classes
 

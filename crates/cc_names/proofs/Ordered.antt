@@ -7,10 +7,10 @@ use Rattle.std.specs.Ordering.{nat_cmp, is_lt, ordering_reverse}
 use Rattle.std.specs.declared.cmp.Ordering.{Ordering}
 use Rattle.std.specs.declared.cmp.Ordering.TheVariants.{Less, Equal, Greater}
 use Rattle.std.proofs.lemmas.Cmp.{nat_list_cmp_total}
-use Rattle.std.proofs.lemmas.List.{map_push, length-map, get_or-map, get_or-take, length-take, take_more, get_or_default}
+use Rattle.std.proofs.lemmas.List.{length-append, map_push, length-map, get_or-map, get_or-take, length-take, take_more, get_or_default}
 use Rattle.std.proofs.lemmas.List.Elements.{Contains-get_or, Contains-push, Contains-push_cases, Contains-append_left}
 use Rattle.std.proofs.lemmas.List.Quantifiers.{all_pairs_push}
-use Rattle.std.proofs.lemmas.List.Sorted.{ranks_by, sorted_far, Contains-permutation, IsPermutation-sym}
+use Rattle.std.proofs.lemmas.List.Sorted.{ranks_by, sorted_far, Contains-permutation, IsPermutation-sym, length_permutation}
 use Rattle.std.proofs.lemmas.Map.Lookups.{exact_bytes}
 use Rattle.cc_meaning.specs.Order.{IsBefore, IsRising}
 use Rattle.cc_names.specs.InOrder.{AreInOrder, IsBehindLast}
@@ -76,6 +76,7 @@ none_in_order name = record {
   rise = λ i j d below within. absurd (omega arith);
   among = λ item none. none;
   named = λ item none. absurd (omega (arith, none.1));
+  few = omega arith;
 }
 
 -- a thing whose name comes behind the last is put at the end
@@ -86,6 +87,7 @@ one_behind {A} name given kept item are behind =
       rise = rw map_push (all_pairs_push IsBefore (map name kept) (name item) are.rise (all_before (map name kept) (name item) are.rise last));
       among = λ x here. among x (Contains-push_cases kept item x here);
       named = λ x here. rw map_push (named x (Contains-push_cases given item x here));
+      few = omega (arith, are.few, length-append kept (item ∷ []), length-append given (item ∷ []));
     }
   where
     last_name : (n : List ℕ) → 0 < length (map name kept) → IsBefore (get_or (map name kept) (length (map name kept) - 1) n) (name item)
@@ -112,6 +114,7 @@ one_left_out {A} name given kept item are (last, here, not_before) not_behind =
       rise = are.rise;
       among = λ x there. Contains-append_left given (item ∷ []) x (are.among x there);
       named = λ x there. named x (Contains-push_cases given item x there);
+      few = omega (arith, are.few, length-append given (item ∷ []));
     }
   where
     named : (x : A) → Contains given x ⊎ (item ≡ x) → Contains (map name kept) (name x)
@@ -143,4 +146,5 @@ of_moved name given sorted kept moved are = record {
   rise = are.rise;
   among = λ x here. Contains-permutation sorted given x (IsPermutation-sym given sorted moved) (are.among x here);
   named = λ x there. are.named x (Contains-permutation given sorted x moved there);
+  few = omega (arith, are.few, length_permutation given sorted moved);
 }

@@ -1,6 +1,6 @@
 //! The names of a program's classes.
 
-ghost use Rattle.std.specs.Prelude.{◌≡◌, ◌∷◌, [], ◌↔◌, ◌++◌, ◌⊎◌, true, ℕ, List, Contains, map, length, IfOk, OnOk, ◌<◌};
+ghost use Rattle.std.specs.Prelude.{◌≡◌, ◌∷◌, [], ◌↔◌, ◌++◌, ◌⊎◌, true, ℕ, List, Contains, map, length, ◌+◌, ◌*◌, ◌≤◌, IfOk, OnOk};
 ghost use Rattle.std.specs.List.{flat_map};
 ghost use Rattle.cc_meaning_program.specs.ClassNames.{AreClassNames};
 ghost use Rattle.cc_names.specs.Candidates.{candidate_name, every_name, whole_of, base_of, candidates_of};
@@ -132,7 +132,8 @@ fn every_name(alloc: Global) -> Result<Texts, AllocError>
 
 /// The rows of texts that types have, each once.
 fn described(alloc: Global, ids: &Ids) -> Result<Rows, AllocError>
-    ensures { IfOk result (λ rows. (row : ℕ) → Contains rows row ↔ Contains ids.now.types row) }
+    ensures are { IfOk result (λ rows. (row : ℕ) → Contains rows row ↔ Contains ids.now.types row) }
+    ensures few { IfOk result (λ rows. length rows ≤ length ids.now.types) }
 {
     let rows = in_order(alloc, &ByNumber, ids.types.copy()?)?;
     Ok(rows)
@@ -191,7 +192,7 @@ fn add_every(all: &mut List<Candidate>, count: u32) -> Result<(), AllocError>
 }
 
 /// The names of a file's classes, each once, in rising order by units: the classes and arrays that its types list, the classes of which these arrays are
-/// made, the built-in classes, and the array of texts.
+/// made, the built-in classes, and the array of texts. So there are at most two for each type, and 27.
 ///
 /// # Errors
 ///
@@ -199,7 +200,8 @@ fn add_every(all: &mut List<Candidate>, count: u32) -> Result<(), AllocError>
 ///
 /// Source: Dalvik Executable format, section type_id_item.
 pub fn class_names(alloc: Global, ids: &Ids) -> Result<Texts, Memory>
-    ensures { IfOk result (AreClassNames ids.now) }
+    ensures names { IfOk result (AreClassNames ids.now) }
+    ensures few { IfOk result (λ names. length names ≤ 2 * length ids.now.types + 27) }
 {
     let every = every_name(alloc)?;
     let rows = described(alloc, ids)?;

@@ -1,6 +1,6 @@
 //! The texts of a program, and their numbers.
 
-ghost use Rattle.std.specs.Prelude.{◌≡◌, ◌^◌, ◌<◌, length, IfOk};
+ghost use Rattle.std.specs.Prelude.{◌≡◌, ◌^◌, ◌<◌, ◌≤◌, length, IfOk};
 ghost use Rattle.cc_meaning_program.specs.Named.{text_of};
 ghost use Rattle.cc_meaning_program.specs.ClassNames.{AreTexts};
 ghost use Rattle.cc_names.specs.Numbers.{AreNumbers};
@@ -40,7 +40,8 @@ impl Naming for ByText<'_> {
 /// Source: Dalvik Executable format, section string_id_item.
 pub fn texts(alloc: Global, ids: &Ids) -> Result<Texts, Memory>
     requires { length ids.now.texts < 2 ^ 32 }
-    ensures { IfOk result (AreTexts ids.now) }
+    ensures texts { IfOk result (AreTexts ids.now) }
+    ensures few { IfOk result (λ texts. length texts ≤ length ids.now.texts) }
 {
     let rows = all_rows(alloc, ids.texts.len() as u32)?;
     let rows = in_order(alloc, &ByText { ids }, rows)?;

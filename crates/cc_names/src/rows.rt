@@ -76,7 +76,8 @@ pub fn base_name(name: &[u16]) -> &[u16]
 
 /// The numbers of so many rows.
 pub fn all_rows(alloc: Global, count: u32) -> Result<Rows, AllocError>
-    ensures { IfOk result (λ rows. (row : ℕ) → Contains rows row ↔ (row < count)) }
+    ensures are { IfOk result (λ rows. (row : ℕ) → Contains rows row ↔ (row < count)) }
+    ensures count { IfOk result (λ rows. length rows ≡ count) }
 {
     let mut rows = List::new(alloc);
     for row in 0..count {
