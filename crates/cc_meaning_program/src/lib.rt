@@ -2,7 +2,9 @@
 #![tactic(auto)]
 
 mod class_laws;
+mod name_laws;
 mod reference;
 
 pub use class_laws::{one_class_fault, sound_classes_have_no_fault, sound_classes_leave};
+pub use name_laws::{one_class_names, one_texts, spelled_once, spells_by_parts};
 pub use reference::Reference;

@@ -1,0 +1,20 @@
+use Rattle.std.proofs.Common.{rules}
+use Rattle.std.specs.Ordering.{nat_cmp, is_lt}
+use Rattle.std.specs.Cmp.Lexicographic.{slice_cmp}
+use Rattle.std.proofs.lemmas.Cmp.{nat_list_cmp_total}
+use Rattle.std.proofs.lemmas.Fn.{always_returns_same}
+use Rattle.std.proofs.lemmas.List.Sorted.{ranks_by}
+use Rattle.cc_names.proofs.Ordered.{of_moved}
+use Rattle.cc_names.proofs.order.in_order.Goals as goal
+
+pub distinct-requires : goal.distinct-requires
+distinct-requires g c =
+    let name = g.N.Naming.name c.args.naming.now in
+    let sorted = c.in_ok-sort_by.ensures.sorted (λ x y. is_lt (slice_cmp nat_cmp (name x) (name y))) (ranks_by nat_list_cmp_total name) (always_returns_same _ _ _ (λ a r h k. search rules)) in
+    rw c.as_slice.ensures.value sorted
+
+pub returns : goal.returns
+returns g c =
+    let name = g.N.Naming.name c.args.naming.now in
+    let moved = rw c.into_vec-items.ensures at c.in_ok-sort_by.ensures.permutation in
+    of_moved name c.args.items c.sort_by.new.self.items c.in_ok-kept.kept moved (rw c.as_slice.ensures.value at c.in_ok-kept.ensures)

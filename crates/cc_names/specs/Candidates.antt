@@ -1,0 +1,29 @@
+-- What may have the name of a class of a program.
+use Rattle.std.specs.Prelude.{ℕ, if◌then◌else◌, List, [], ◌∷◌, ◌++◌, map, unwrap_or, slice_get}
+use Rattle.cc_meaning.specs.declared.file.Ids.{Ids}
+use Rattle.cc_meaning.specs.BuiltIn.{BuiltInClass, built_in_classes}
+use Rattle.cc_meaning_file.specs.Descriptors.{names_class, names_reference}
+use Rattle.cc_meaning_program.specs.Named.{text_of}
+use Rattle.cc_meaning_program.specs.ClassNames.{base_name, texts_name}
+use Rattle.cc_names.specs.declared.classes.Candidate.{Candidate}
+use Rattle.cc_names.specs.declared.classes.Candidate.TheVariants.{Whole, Base, Every}
+
+-- the names that every program has: those of the built-in classes, and that of the array of texts
+unfoldable pub every_name : List (List ℕ)
+every_name = map (λ (class : BuiltInClass). class.name) built_in_classes ++ texts_name ∷ []
+
+-- the name of a candidate, where every program has these names
+unfoldable pub candidate_name : Ids → List (List ℕ) → Candidate → List ℕ
+candidate_name ids every (Whole row) = text_of ids row
+candidate_name ids every (Base row) = base_name (text_of ids row)
+candidate_name ids every (Every number) = unwrap_or (slice_get every number) []
+
+-- the candidates that a row of texts makes: its text, where that is a class or an array, and what stands behind its `[`, where that is a class
+unfoldable pub whole_of : Ids → ℕ → List Candidate
+whole_of ids row = if names_reference (text_of ids row) then Whole row ∷ [] else []
+
+unfoldable pub base_of : Ids → ℕ → List Candidate
+base_of ids row = if names_class (base_name (text_of ids row)) then Base row ∷ [] else []
+
+unfoldable pub candidates_of : Ids → ℕ → List Candidate
+candidates_of ids row = whole_of ids row ++ base_of ids row

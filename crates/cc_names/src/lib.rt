@@ -1,0 +1,17 @@
+//! The names of a file's classes, texts and members in their order, and the numbers and types that they give.
+#![tactic(auto)]
+
+mod classes;
+mod listed;
+mod members;
+mod order;
+mod pieces;
+mod place;
+mod rows;
+mod types;
+
+pub use classes::class_names;
+pub use listed::{numbers_of_texts, texts};
+pub use members::{compare_fields, compare_methods, sorted_fields, sorted_methods};
+pub use place::find;
+pub use types::{type_of, types_of_rows};
