@@ -1,0 +1,2 @@
+pub mod BodyRuns
+pub mod BodyFaultLaws
