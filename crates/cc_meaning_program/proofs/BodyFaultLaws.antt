@@ -17,7 +17,7 @@ use Rattle.cc_meaning_program.specs.declared.reference.Reference.{Reference}
 use Rattle.cc_meaning_program.specs.Named.{type_name, field_text, method_text}
 use Rattle.cc_meaning_program.specs.References.{reference_of, reference_name, IsMissing, Floats}
 use Rattle.cc_meaning_program.specs.Instructions.{AreInstructions, StandUntil, BreaksOff}
-use Rattle.cc_meaning_program.specs.BodyFaults.{FirstHas, NoneHas, FieldFault, MethodFault, InsnFaulty, CatchFaulty, TryFaulty, CodeFaulty, MethodFaulty, ClassFaulty, IsBodyFault, HaveSoundBodies, OneBodyFault, SoundBodiesHaveNone, NoBodyLacksMemory}
+use Rattle.cc_meaning_program.specs.BodyFaults.{FirstHas, NoneHas, FieldFault, MethodFault, InsnFaulty, CatchFaulty, TryFaulty, CodeFaulty, MethodFaulty, ClassFaulty, IsBodyFault, HaveSoundBodies, SoundCode, OneBodyFault, SoundBodiesHaveNone, NoBodyLacksMemory}
 use Rattle.cc_meaning_program.proofs.BodyRuns.{Run, Stops, until_run, from_run, one_goes, begins_whole, stops_at_end, stops_at_break, one_break}
 
 -- ---- the first of some items
@@ -136,6 +136,12 @@ code_once ids method code fault other (CodeFaulty.of_handler {all = all} whole n
 code_once ids method code fault other (CodeFaulty.of_handler {all = all} whole none handler) (CodeFaulty.of_units {at = there} {before = those} {cause = cause} breaks none' e) =
     absurd (one_break.no_reading code.units those all there cause breaks whole)
 code_once ids method code fault other (CodeFaulty.of_handler whole none handler) (CodeFaulty.of_handler whole' none' handler') = one_first (TryFaulty ids) code.tries fault other (try_once ids) handler handler'
+
+pub sound_code : SoundCode
+sound_code ids method code placed fault whole none handlers (CodeFaulty.of_instruction {at = here} {before = these} stand first) =
+    insn_among ids method code.units here _ these placed fault (stops_at_end code.units) (until_run stand) (from_run whole) first none
+sound_code ids method code placed fault whole none handlers (CodeFaulty.of_units {at = there} {before = those} {cause = cause} breaks none' e) = one_break.no_reading code.units those placed there cause breaks whole
+sound_code ids method code placed fault whole none handlers (CodeFaulty.of_handler whole' none' first) = none_is_first (TryFaulty ids) code.tries fault handlers first
 
 -- ---- classes
 

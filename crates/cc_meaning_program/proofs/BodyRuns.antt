@@ -1,5 +1,5 @@
 -- Instructions that stand one behind the other, from one address to another.
-use Rattle.std.proofs.Common.{◌≡◌, ◌≢◌, ℕ, zero, suc, ◌+◌, ◌/◌, ◌%◌, ◌<◌, ◌≤◌, ◌⊎◌, inl, inr, true, false, List, [], ◌∷◌, ◌++◌, length, take, drop, get_or, Option, Some, None, Result, Ok, Err, refl, sym, ap, ◌∙◌, subst, arith}
+use Rattle.std.proofs.Common.{◌≡◌, ◌≢◌, ℕ, zero, suc, ◌+◌, ◌/◌, ◌%◌, ◌<◌, ◌≤◌, ◌⊎◌, inl, inr, true, false, List, [], ◌∷◌, ◌++◌, length, take, drop, get_or, Option, Some, None, Result, Ok, Err, refl, sym, ap, ◌∙◌, subst, append_assoc, arith}
 use Rattle.std.specs.Prelude.{slice_get, slice_range, nat_lt}
 use Rattle.std.proofs.lemmas.Bool.{cases_lt, cases_eq, cases_Bool}
 use Rattle.std.proofs.lemmas.Bool.Decides.{nat_tests}
@@ -14,7 +14,7 @@ use Rattle.cc_meaning_insn.specs.Opcodes.{opcode_at}
 use Rattle.cc_meaning.specs.declared.instruction.Insn.TheVariants.{ArrayPayload}
 use Rattle.cc_meaning_insn.specs.Payloads.{bytes_of, byte_count, packed_payload, sparse_payload, array_payload, packed_size, sparse_size, array_size, element_width, is_width}
 use Rattle.cc_meaning_insn.specs.Decoded.{if_there, of_opcode, front_of, decoded}
-use Rattle.cc_meaning_program.specs.Instructions.{StandFrom, AreInstructions, StandUntil, BreaksOff, InsnsTakeUnits, AreLaidOut, InstructionsLaidOut, OneReading, OneBreak}
+use Rattle.cc_meaning_program.specs.Instructions.{StandFrom, AreInstructions, StandUntil, BreaksOff, InsnsTakeUnits, AreLaidOut, InstructionsLaidOut, StandToEnd, OneReading, OneBreak}
 
 -- ---- an instruction takes a unit at least
 
@@ -225,6 +225,15 @@ unfolding Stops
 stops_at_break units before at fault breaks = λ size insn h d. let none = breaks.none in absurd cc
 
 -- ---- laws
+
+run_until : {units : List ℕ} {at end : ℕ} {before placed : List Placed} → StandUntil units at before → Run units at placed end → StandUntil units end (before ++ placed)
+run_until {units = units} {before = before} stand (Run.none {at = at}) = subst (λ (all : List Placed). StandUntil units at all) (sym (append-nil before)) stand
+run_until {units = units} {end = end} {before = before} stand (Run.next {at = at} {size = size} {insn = insn} {rest = rest} h d run) =
+    let one : Placed = record { at = at; units = size; insn = insn } in
+    subst (λ (all : List Placed). StandUntil units end all) (append_assoc before (one ∷ []) rest) (run_until (StandUntil.next stand h d) run)
+
+pub stand_to_end : StandToEnd
+stand_to_end units placed = (λ whole. run_until StandUntil.none (from_run whole), λ stand. run_from (until_run stand) refl)
 
 pub one_reading : OneReading
 one_reading units these those whole other =

@@ -84,6 +84,10 @@ HaveSoundBodies ids classes = NoneHas (ClassFaulty ids) classes
 
 -- ---- laws
 
+-- code has no fault where its units are instructions, and neither these nor its handlers have one
+abbrev pub SoundCode : Type 0
+SoundCode = (ids : Ids) (method : List ℕ) (code : RawCode) (placed : List Placed) (fault : ProgramFault) → AreInstructions code.units placed → NoneHas (InsnFaulty ids method) placed → NoneHas (TryFaulty ids) code.tries → ¬ CodeFaulty ids method code fault
+
 -- of the faults of bodies one is the first
 abbrev pub OneBodyFault : Type 0
 OneBodyFault = (ids : Ids) (classes : List RawClass) (fault other : ProgramFault) → IsBodyFault ids classes fault → IsBodyFault ids classes other → fault ≡ other

@@ -1,5 +1,5 @@
 -- The instructions of a code's units, one behind the other from the first unit on, payloads among them.
-use Rattle.std.specs.Prelude.{◌≡◌, ℕ, suc, ◌+◌, ◌<◌, ◌≤◌, List, [], ◌∷◌, ◌++◌, length, slice_get, Some, None, Ok, Err}
+use Rattle.std.specs.Prelude.{◌≡◌, ◌↔◌, ℕ, suc, ◌+◌, ◌<◌, ◌≤◌, List, [], ◌∷◌, ◌++◌, length, slice_get, Some, None, Ok, Err}
 use Rattle.cc_meaning.specs.declared.fault.InsnFault.{InsnFault}
 use Rattle.cc_meaning.specs.declared.instruction.Insn.{Insn}
 use Rattle.cc_meaning.specs.declared.program.Placed.{Placed}
@@ -43,6 +43,10 @@ pub record AreLaidOut (placed : List Placed) (end : ℕ) : Type 0 where
 -- the instructions of units are laid out so
 abbrev pub InstructionsLaidOut : Type 0
 InstructionsLaidOut = (units : List ℕ) (placed : List Placed) → AreInstructions units placed → AreLaidOut placed (length units)
+
+-- instructions up to the units' end are all of them
+abbrev pub StandToEnd : Type 0
+StandToEnd = (units : List ℕ) (placed : List Placed) → AreInstructions units placed ↔ StandUntil units (length units) placed
 
 -- units are instructions in one way at most
 abbrev pub OneReading : Type 0

@@ -1,5 +1,5 @@
-ghost use Rattle.cc_meaning_program.specs.Instructions.{InsnsTakeUnits, InstructionsLaidOut, OneReading, OneBreak};
-ghost use Rattle.cc_meaning_program.specs.BodyFaults.{OneBodyFault, SoundBodiesHaveNone, NoBodyLacksMemory};
+ghost use Rattle.cc_meaning_program.specs.Instructions.{InsnsTakeUnits, InstructionsLaidOut, StandToEnd, OneReading, OneBreak};
+ghost use Rattle.cc_meaning_program.specs.BodyFaults.{SoundCode, OneBodyFault, SoundBodiesHaveNone, NoBodyLacksMemory};
 
 /// What stands in units has at least one unit, and none past their end.
 pub fn insns_take_units()
@@ -11,6 +11,11 @@ pub fn instructions_laid_out()
     ensures { InstructionsLaidOut }
 {}
 
+/// Instructions up to the units' end are all of them.
+pub fn stand_to_end()
+    ensures { StandToEnd }
+{}
+
 /// Units are instructions in one way at most.
 pub fn one_reading()
     ensures { OneReading }
@@ -19,6 +24,11 @@ pub fn one_reading()
 /// Units break off at one place at most.
 pub fn one_break()
     ensures { OneBreak }
+{}
+
+/// Code has no fault where its units are instructions, and neither these nor its handlers have one.
+pub fn sound_code()
+    ensures { SoundCode }
 {}
 
 /// Of the faults of bodies one is the first.
