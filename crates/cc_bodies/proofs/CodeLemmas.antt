@@ -63,12 +63,13 @@ whole_units code placed (Some here) stand whole = absurd (whole here refl)
 
 pub body_read : (ids : Ids) (method : RawMethod) (code : RawCode) (placed : List Placed) → method.code ≡ Some code → AreInstructions code.units placed →
     ((fault : ProgramFault) → ¬ CodeFaulty ids (method_text ids method.row) code fault) → Reads (IsBody method.code) (MethodFaulty ids method) (Ok (Some placed))
-body_read ids method code placed there are none =
-    (subst (λ (stated : Option RawCode). IsBody stated (Some placed)) (sym there) are,
-    λ fault f.
-        let other = f.1 in
-        let same : f.0 ≡ code = cc in
-        none fault (subst (λ (it : RawCode). CodeFaulty ids (method_text ids method.row) it fault) same f.2))
+body_read ids method code placed there are none = (
+  subst (λ (stated : Option RawCode). IsBody stated (Some placed)) (sym there) are,
+  λ fault f.
+      let other = f.1 in
+      let same : f.0 ≡ code = cc in
+      none fault (subst (λ (it : RawCode). CodeFaulty ids (method_text ids method.row) it fault) same f.2),
+)
 
 pub class_read : (ids : Ids) (class : RawClass) (result : Result (List (Option (List Placed))) ProgramFault) → NoneHas (FieldFault ids) class.fields → NoneHas (MethodFault ids) class.methods →
     ReadsEach (λ (method : RawMethod) (body : Option (List Placed)). IsBody method.code body) (MethodFaulty ids) class.methods result → Reads (AreClassBodies class.methods) (ClassFaulty ids class) result

@@ -101,7 +101,7 @@ more_flags is_so flags count flag one so_far =
             let here : count ≡ row = omega arith in
             let at : slice_get (flags ++ flag ∷ []) row ≡ Some flag = ap (slice_get (flags ++ flag ∷ [])) (sym here ∙ sym as_many) ∙ flag_last flags flag in
             subst (λ (found : Option Bool). IsTrue (unwrap_or found false) ↔ is_so row) (sym at) (subst (λ (n : ℕ). IsTrue flag ↔ is_so n) here one)
-      ]
+      ];
     }
 
 no_flag : (flags : List Bool) (row : ℕ) → length flags ≤ row → ¬ IsTrue (unwrap_or (slice_get flags row) false)
@@ -111,11 +111,11 @@ no_flag flags row h t =
 
 pub all_flags : (is_so : ℕ → Type 0) (flags : List Bool) (count : ℕ) → ((row : ℕ) → count ≤ row → ¬ is_so row) → FlagsBefore is_so flags count → FlagsSay is_so flags
 all_flags is_so flags count none so_far = λ row. elim (cases_lt row count) [
-    | inl within ↦ so_far.say row within
-    | inr past ↦
-        let as_many = so_far.as_many in
-        (λ t. absurd (no_flag flags row (omega arith) t), λ f. absurd (none row past f))
-  ]
+  | inl within ↦ so_far.say row within
+  | inr past ↦
+      let as_many = so_far.as_many in
+      (λ t. absurd (no_flag flags row (omega arith) t), λ f. absurd (none row past f))
+]
 
 pub flag_says : (is_so : ℕ → Type 0) (flags : List Bool) (row : ℕ) (flag : Bool) → FlagsSay is_so flags → flag ≡ unwrap_or (slice_get flags row) false → IsTrue flag ↔ is_so row
 flag_says is_so flags row flag say is = (λ t. (say row).0 (sym is ∙ t), λ f. is ∙ (say row).1 f)
@@ -138,12 +138,13 @@ no_proto_floats ids row h floats =
     omega arith
 
 pub proto_here : (ids : Ids) (row : ℕ) (stated : ProtoRow) (flag : Bool) → slice_get ids.protos row ≡ Some stated → (IsTrue flag ↔ PrototypeFloats ids stated) → IsTrue flag ↔ ProtoFloats ids row
-proto_here ids row stated flag there says =
-    (λ t. record { stated = stated; there = there; floats = says.0 t },
-    λ (floats : ProtoFloats ids row).
-        let other = floats.there in
-        let same : floats.stated ≡ stated = cc in
-        says.1 (subst (PrototypeFloats ids) same floats.floats))
+proto_here ids row stated flag there says = (
+  λ t. record { stated = stated; there = there; floats = says.0 t },
+  λ (floats : ProtoFloats ids row).
+      let other = floats.there in
+      let same : floats.stated ≡ stated = cc in
+      says.1 (subst (PrototypeFloats ids) same floats.floats),
+)
 
 pub prototype_by_result : (ids : Ids) (prototype : ProtoRow) (flags : List Bool) (flag : Bool) → FlagsSay (λ row. IsFloating (type_name ids row)) flags →
     flag ≡ unwrap_or (slice_get flags prototype.result) false → IsTrue flag → IsTrue flag ↔ PrototypeFloats ids prototype
@@ -159,6 +160,7 @@ prototype_by_parameter ids prototype flags flag other say is f any = (found, bac
         let test : ℕ → Bool = λ row. unwrap_or (slice_get flags row) false in
         let some = Any-from_list_any test prototype.params (sym any ∙ t) in
         PrototypeFloats.by_parameter {type = some.1} (some.0, some.2, some.3) ((say some.1).0 some.4)
+
     back : PrototypeFloats ids prototype → IsTrue other
     back (PrototypeFloats.by_result floats) = let t : flag ≡ true = is ∙ (say prototype.result).1 floats in absurd cc
     back (PrototypeFloats.by_parameter {type = type} in_list floats) =
@@ -197,8 +199,10 @@ method_by_proto ids row stated flag other there says f protos = (λ u. found (pr
     by : (prototype : ProtoRow) → slice_get ids.protos stated.proto ≡ Some prototype → PrototypeFloats ids prototype → MethodFloats ids row
     by prototype at (PrototypeFloats.by_result floats) = MethodFloats.by_result there at floats
     by prototype at (PrototypeFloats.by_parameter in_list floats) = MethodFloats.by_parameter there at in_list floats
+
     found : ProtoFloats ids stated.proto → MethodFloats ids row
     found floats = by floats.stated floats.there floats.floats
+
     back : MethodFloats ids row → IsTrue other
     back (MethodFloats.by_class {stated = same} there' floats) =
         let is : same ≡ stated = cc in

@@ -30,7 +30,7 @@ none_more {A} has items place item there_is none so_far =
             let moved : slice_get items earlier ≡ slice_get items place = ap (slice_get items) here in
             let same : other ≡ item = cc in
             none another (subst (λ (it : A). has it another) same f)
-      ]
+      ];
     }
 
 pub first_here : {A : Type 0} (has : A → ProgramFault → Type 0) (items : List A) (place : ℕ) (item : A) (fault : ProgramFault) → slice_get items place ≡ Some item →

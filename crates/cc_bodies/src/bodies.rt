@@ -9,14 +9,12 @@ ghost use Rattle.cc_bodies.specs.Floats.{AreFloatRows};
 ghost use Rattle.cc_bodies.specs.Bodies.{MethodsHaveFewUnits, HaveFewUnits, IsBody, AreClassBodies, AreBodies};
 
 use crate::floats::{FloatRows, field_floats, float_rows, method_floats, type_floats};
-use crate::reading::instructions;
 use crate::names::{field_text, method_text, type_name};
+use crate::reading::instructions;
 use crate::references::{floats, is_missing, reference_name, reference_of};
 use cc_list::List;
 use cc_meaning::fault::ProgramFault;
-use cc_meaning::file::{
-    Ids, RawCatch, RawClass, RawClasses, RawCode, RawField, RawMethod, RawTry,
-};
+use cc_meaning::file::{Ids, RawCatch, RawClass, RawClasses, RawCode, RawField, RawMethod, RawTry};
 use cc_meaning::lists::Units;
 use cc_meaning::program::{Insns, Placed};
 use cc_meaning_program::{Reference, sound_code, stand_to_end};

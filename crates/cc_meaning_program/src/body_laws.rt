@@ -1,5 +1,6 @@
 ghost use Rattle.cc_meaning_program.specs.Instructions.{InsnsTakeUnits, InstructionsLaidOut, StandToEnd, OneReading, OneBreak};
 ghost use Rattle.cc_meaning_program.specs.BodyFaults.{SoundCode, OneBodyFault, SoundBodiesHaveNone, NoBodyLacksMemory};
+ghost use Rattle.cc_meaning_program.specs.CodeSizes.{SpelledCodeIsSmall};
 
 /// What stands in units has at least one unit, and none past their end.
 pub fn insns_take_units()
@@ -39,6 +40,11 @@ pub fn one_body_fault()
 /// Sound bodies have no fault.
 pub fn sound_bodies_have_none()
     ensures { SoundBodiesHaveNone }
+{}
+
+/// The code of classes that a file of bytes spells has fewer than 2 ^ 32 units.
+pub fn spelled_code_is_small()
+    ensures { SpelledCodeIsSmall }
 {}
 
 /// That memory is wanting is no fault of a file's bodies.

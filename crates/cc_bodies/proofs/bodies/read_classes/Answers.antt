@@ -23,6 +23,7 @@ loop-class-preserved c =
     }
 
 pub returns : goal.returns
-returns c =
-    (all_read (λ (class : RawClass) (of_class : List (Option (List Placed))). AreClassBodies class.methods of_class) c.args.classes.now c.loop-class.class-index c.loop-class.bodies c.loop-class-test.false c.loop-class.invariant.read,
-    none_has (ClassFaulty c.args.ids.now) c.args.classes.now c.loop-class.class-index c.loop-class-test.false c.loop-class.invariant.sound)
+returns c = (
+  all_read (λ (class : RawClass) (of_class : List (Option (List Placed))). AreClassBodies class.methods of_class) c.args.classes.now c.loop-class.class-index c.loop-class.bodies c.loop-class-test.false c.loop-class.invariant.read,
+  none_has (ClassFaulty c.args.ids.now) c.args.classes.now c.loop-class.class-index c.loop-class-test.false c.loop-class.invariant.sound,
+)

@@ -10,5 +10,5 @@ abbrev pub invariant-loop-class : goal.invariant-loop-class
 invariant-loop-class l =
     record {
       sound : NoneBefore (ClassFaulty l.ids) l.classes l.class-index;
-      read : ReadBefore (λ (class : RawClass) (of_class : List (Option (List Placed))). AreClassBodies class.methods of_class) l.classes l.class-index l.bodies
+      read : ReadBefore (λ (class : RawClass) (of_class : List (Option (List Placed))). AreClassBodies class.methods of_class) l.classes l.class-index l.bodies;
     }

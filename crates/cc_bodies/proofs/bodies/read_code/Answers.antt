@@ -31,6 +31,8 @@ pub returns : goal.returns
 returns c =
     let reading = c.in_ok-reading.reading in
     let stand = rw c.as_slice.ensures at c.in_ok-reading.ensures in
-    let whole = whole_units c.args.code.now reading.insns reading.broken stand c.in_default.not-Some in
-    (whole, λ fault. c.sound_code.ensures c.args.ids.now (method_text c.args.ids.now c.args.method) c.args.code.now reading.insns fault whole (rw c.as_slice-2.ensures at c.in_ok-judge_insns.ensures)
-    (rw c.as_slice-3.ensures at c.in_ok-judge_tries.ensures))
+    let whole = whole_units c.args.code.now reading.insns reading.broken stand c.in_default.not-Some in (
+      whole,
+      λ fault. c.sound_code.ensures c.args.ids.now (method_text c.args.ids.now c.args.method) c.args.code.now reading.insns fault whole (rw c.as_slice-2.ensures at c.in_ok-judge_insns.ensures)
+          (rw c.as_slice-3.ensures at c.in_ok-judge_tries.ensures),
+    )

@@ -23,6 +23,7 @@ loop-method-preserved c =
     }
 
 pub returns : goal.returns
-returns c =
-    (all_read (λ (method : RawMethod) (body : Option (List Placed)). IsBody method.code body) c.args.methods.now c.loop-method.method-index c.loop-method.bodies c.loop-method-test.false c.loop-method.invariant.read,
-    none_has (MethodFaulty c.args.ids.now) c.args.methods.now c.loop-method.method-index c.loop-method-test.false c.loop-method.invariant.sound)
+returns c = (
+  all_read (λ (method : RawMethod) (body : Option (List Placed)). IsBody method.code body) c.args.methods.now c.loop-method.method-index c.loop-method.bodies c.loop-method-test.false c.loop-method.invariant.read,
+  none_has (MethodFaulty c.args.ids.now) c.args.methods.now c.loop-method.method-index c.loop-method-test.false c.loop-method.invariant.sound,
+)

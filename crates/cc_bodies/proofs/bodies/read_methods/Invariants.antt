@@ -10,5 +10,5 @@ abbrev pub invariant-loop-method : goal.invariant-loop-method
 invariant-loop-method l =
     record {
       sound : NoneBefore (MethodFaulty l.ids) l.methods l.method-index;
-      read : ReadBefore (λ (method : RawMethod) (body : Option (List Placed)). IsBody method.code body) l.methods l.method-index l.bodies
+      read : ReadBefore (λ (method : RawMethod) (body : Option (List Placed)). IsBody method.code body) l.methods l.method-index l.bodies;
     }
