@@ -68,3 +68,30 @@ more_read {A} {B} is items place item read one there_is good so_far =
 
 pub all_read : {A B : Type 0} (is : A → B → Type 0) (items : List A) (place : ℕ) (read : List B) → length items ≤ place → ReadBefore is items place read → AllZip is items read
 all_read {A} is items place read all so_far = subst (λ (front : List A). AllZip is front read) (take_all place items all) so_far.each
+
+-- ---- what holds of each
+
+-- of each item before this place
+pub record EachBefore {A : Type 0} (is_so : A → Type 0) (items : List A) (place : ℕ) : Type 0 where
+  pub each : (earlier : ℕ) (item : A) → earlier < place → slice_get items earlier ≡ Some item → is_so item
+
+pub each_none : {A : Type 0} (is_so : A → Type 0) (items : List A) → EachBefore is_so items 0
+each_none is_so items = record { each = λ earlier item h e. absurd (omega arith) }
+
+pub each_more : {A : Type 0} (is_so : A → Type 0) (items : List A) (place : ℕ) (item : A) → slice_get items place ≡ Some item → is_so item → EachBefore is_so items place → EachBefore is_so items (place + 1)
+each_more {A} is_so items place item there_is one so_far =
+    record {
+      each = λ earlier other below there. elim (cases_lt earlier place) [
+        | inl first ↦ so_far.each earlier other first there
+        | inr last ↦
+            let here : earlier ≡ place = omega arith in
+            let moved : slice_get items earlier ≡ slice_get items place = ap (slice_get items) here in
+            let same : item ≡ other = cc in
+            subst is_so same one
+      ]
+    }
+
+pub each_all : {A : Type 0} (is_so : A → Type 0) (items : List A) (place : ℕ) → length items ≤ place → EachBefore is_so items place → (number : ℕ) (item : A) → slice_get items number ≡ Some item → is_so item
+each_all is_so items place all so_far number item there =
+    let within = slice_get_within items number item there in
+    so_far.each number item (omega arith) there

@@ -1,22 +1,11 @@
 -- The instructions of a file's methods.
-use Rattle.std.specs.Prelude.{◌≡◌, ℕ, ◌<◌, ◌^◌, List, length, slice_get, Option, Some, None}
+use Rattle.std.specs.Prelude.{List, Option, Some, None}
 use Rattle.std.specs.List.{AllZip}
 use Rattle.cc_meaning.specs.declared.file.RawClass.{RawClass}
 use Rattle.cc_meaning.specs.declared.file.RawCode.{RawCode}
 use Rattle.cc_meaning.specs.declared.file.RawMethod.{RawMethod}
 use Rattle.cc_meaning.specs.declared.program.Placed.{Placed}
 use Rattle.cc_meaning_program.specs.Instructions.{AreInstructions}
-
--- ---- premises
-
--- each code has fewer than 2 ^ 32 units
-abbrev pub MethodsHaveFewUnits : List RawMethod → Type 0
-MethodsHaveFewUnits methods = (number : ℕ) (method : RawMethod) (code : RawCode) → slice_get methods number ≡ Some method → method.code ≡ Some code → length code.units < 2 ^ 32
-
-abbrev pub HaveFewUnits : List RawClass → Type 0
-HaveFewUnits classes = (number : ℕ) (class : RawClass) → slice_get classes number ≡ Some class → MethodsHaveFewUnits class.methods
-
--- ---- what is read
 
 -- a method's instructions, none where it has no code
 abbrev pub IsBody : Option RawCode → Option (List Placed) → Type 0

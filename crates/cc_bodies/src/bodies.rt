@@ -1,12 +1,13 @@
 //! The members and the code of a file's classes: judged and decoded in the file's order, up to the first fault.
 
-ghost use Rattle.std.specs.Prelude.{◌≡◌, ◌≢◌, ◌<◌, ◌^◌, length, IfSome, IfOk, IfErr, OnOk};
+ghost use Rattle.std.specs.Prelude.{◌≡◌, ◌≢◌, ◌<◌, ◌^◌, length, IfOk, IfErr, OnOk};
 ghost use Rattle.cc_meaning_program.specs.Named.{method_text};
 ghost use Rattle.cc_meaning_program.specs.Instructions.{AreInstructions};
 ghost use Rattle.cc_meaning_program.specs.BodyFaults.{NoneHas, FirstHas, FieldFault, MethodFault, InsnFaulty, CatchFaulty, TryFaulty, CodeFaulty, MethodFaulty, ClassFaulty, IsBodyFault, HaveSoundBodies};
 ghost use Rattle.cc_bodies.specs.Judged.{Judges, Reads, JudgesEach, ReadsEach, ReferenceFaulty};
 ghost use Rattle.cc_bodies.specs.Floats.{AreFloatRows};
-ghost use Rattle.cc_bodies.specs.Bodies.{MethodsHaveFewUnits, HaveFewUnits, IsBody, AreClassBodies, AreBodies};
+ghost use Rattle.cc_meaning_program.specs.CodeSizes.{HasFewUnits, MethodsHaveFewUnits, HaveFewUnits};
+ghost use Rattle.cc_bodies.specs.Bodies.{IsBody, AreClassBodies, AreBodies};
 
 use crate::floats::{FloatRows, field_floats, float_rows, method_floats, type_floats};
 use crate::names::{field_text, method_text, type_name};
@@ -171,7 +172,7 @@ fn read_body(
     method: &RawMethod,
 ) -> Result<Option<Insns>, ProgramFault>
     requires rows { AreFloatRows ids.now rows.now }
-    requires units { IfSome method.now.code (λ code. length code.units < 2 ^ 32) }
+    requires units { HasFewUnits method.now }
     ensures { Reads (IsBody method.now.code) (MethodFaulty ids.now method.now) result }
 {
     match &method.code {

@@ -6,7 +6,9 @@ mod floats;
 mod names;
 mod reading;
 mod references;
+mod sizes;
 
 pub use bodies::{Bodies, ClassBodies, read_bodies};
 pub use names::{field_text, method_text};
 pub use reading::{Break, Reading, instructions};
+pub use sizes::have_few_units;
