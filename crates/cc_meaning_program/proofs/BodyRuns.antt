@@ -33,7 +33,7 @@ if_there_taken count units made insn size some e = elim (cases_lt (length units)
       absurd cc
   | inr enough ↦
       let found : if_there count units made ≡ Ok (made, count) = grind (arith, nat_tests) in
-      let whole : (made, count) ≡ (insn, size) = cc in
+      let whole : ◌≡◌ {A = Insn × ℕ} (made, count) (insn, size) = cc in
       let same : count ≡ size = size_of made insn count size whole in
       record { some = omega arith; there = omega arith }
 ]
@@ -78,7 +78,7 @@ array_taken units insn size e = elim (cases_lt (length units) (array_size units)
         | inl good ↦
             let made : Insn = ArrayPayload (element_width units) (take (byte_count units) (bytes_of (slice_range units 4 (array_size units)))) in
             let found : array_payload units ≡ Ok (made, array_size units) = rw (test, good, array_payload) refl in
-            let whole : (made, array_size units) ≡ (insn, size) = cc in
+            let whole : ◌≡◌ {A = Insn × ℕ} (made, array_size units) (insn, size) = cc in
             let same : array_size units ≡ size = size_of made insn (array_size units) size whole in
             record { some = omega arith; there = omega arith }
         | inr bad ↦
