@@ -1,3 +1,6 @@
 pub mod ClassLaws
 pub mod Rising
 pub mod Spelling
+pub mod BodyRuns
+pub mod BodyFaultLaws
+pub mod CodeSizeLaws

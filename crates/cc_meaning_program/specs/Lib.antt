@@ -7,3 +7,4 @@ pub mod TypeNames
 pub mod Instructions
 pub mod References
 pub mod BodyFaults
+pub mod CodeSizes

@@ -1,0 +1,4 @@
+pub mod Reading
+pub mod Judged
+pub mod Floats
+pub mod Bodies
