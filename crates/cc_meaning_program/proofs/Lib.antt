@@ -1,2 +1,4 @@
 pub mod Rising
 pub mod Spelling
+pub mod BodyRuns
+pub mod BodyFaultLaws

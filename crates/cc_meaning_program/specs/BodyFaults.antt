@@ -81,3 +81,21 @@ IsBodyFault ids classes fault = FirstHas (ClassFaulty ids) classes fault
 -- there is none
 abbrev pub HaveSoundBodies : Ids → List RawClass → Type 0
 HaveSoundBodies ids classes = NoneHas (ClassFaulty ids) classes
+
+-- ---- laws
+
+-- code has no fault where its units are instructions, and neither these nor its handlers have one
+abbrev pub SoundCode : Type 0
+SoundCode = (ids : Ids) (method : List ℕ) (code : RawCode) (placed : List Placed) (fault : ProgramFault) → AreInstructions code.units placed → NoneHas (InsnFaulty ids method) placed → NoneHas (TryFaulty ids) code.tries → ¬ CodeFaulty ids method code fault
+
+-- of the faults of bodies one is the first
+abbrev pub OneBodyFault : Type 0
+OneBodyFault = (ids : Ids) (classes : List RawClass) (fault other : ProgramFault) → IsBodyFault ids classes fault → IsBodyFault ids classes other → fault ≡ other
+
+-- sound bodies have none
+abbrev pub SoundBodiesHaveNone : Type 0
+SoundBodiesHaveNone = (ids : Ids) (classes : List RawClass) (fault : ProgramFault) → HaveSoundBodies ids classes → ¬ IsBodyFault ids classes fault
+
+-- that memory is wanting is no fault of theirs
+abbrev pub NoBodyLacksMemory : Type 0
+NoBodyLacksMemory = (ids : Ids) (classes : List RawClass) → ¬ IsBodyFault ids classes faults.Memory
