@@ -1,15 +1,13 @@
 //! What a file's tables and classes come to as a program: names, the hierarchy of its classes, its code; and each fault with its cause.
 #![tactic(auto)]
 
-mod name_laws;
-mod reference;
-
-pub use name_laws::{one_class_names, one_texts, spelled_once, spells_by_parts};
 mod body_laws;
+mod name_laws;
 mod reference;
 
 pub use body_laws::{
     insns_take_units, instructions_laid_out, no_body_lacks_memory, one_body_fault, one_break,
     one_reading, sound_bodies_have_none, sound_code, stand_to_end,
 };
+pub use name_laws::{one_class_names, one_texts, spelled_once, spells_by_parts};
 pub use reference::Reference;

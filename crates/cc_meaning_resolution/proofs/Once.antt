@@ -1,16 +1,16 @@
 -- A named member belongs to one class at most.
-use Rattle.std.proofs.Common.{◌≡◌, ℕ, false, List, [], ◌∷◌, ◌++◌, Option, Some, None, refl, sym, ap, ◌∙◌, subst}
+use Rattle.std.proofs.Common.{◌≡◌, ℕ, false, List, ◌∷◌, ◌++◌, Some, refl, sym, ap, ◌∙◌, subst}
 use Rattle.std.specs.List.{flat_map}
 use Rattle.cc_meaning.specs.declared.file.Ids.{Ids}
 use Rattle.cc_meaning.specs.declared.file.RawClass.{RawClass}
-use Rattle.cc_meaning_resolution.specs.Ancestry.{is_defined, superclass_named, interfaces_named, Ancestry, Superinterfaces}
+use Rattle.cc_meaning_resolution.specs.Ancestry.{is_defined, interfaces_named, Ancestry, Superinterfaces}
 use Rattle.cc_meaning_resolution.specs.Searches.{First, NoneOf, MethodOrder, FieldOrder}
 use Rattle.cc_meaning_resolution.specs.Owners.{IsBeyond, DefinesMethod, DefinesField, Lists, MethodOwner, FieldOwner}
 use Rattle.cc_meaning_resolution.specs.Laws.{OneMethodOwner, OneFieldOwner}
 
 -- ---- the first one
 
-first_once : {A : Type 0} {is_so : A → Type 0} (xs : List A) (x y : A) → First is_so xs x → First is_so xs y → x ≡ y
+pub first_once : {A : Type 0} {is_so : A → Type 0} (xs : List A) (x y : A) → First is_so xs x → First is_so xs y → x ≡ y
 first_once _ x y (First.here so) (First.here also) = refl
 first_once _ x y (First.here so) (First.later not rest) = absurd (not so)
 first_once _ x y (First.later not rest) (First.here so) = absurd (not so)
@@ -25,7 +25,7 @@ some_once x y e = cc
 
 -- ---- orders
 
-ancestry_once : (ids : Ids) (name : List ℕ) (these those : List (List ℕ)) → Ancestry ids name these → Ancestry ids name those → these ≡ those
+pub ancestry_once : (ids : Ids) (name : List ℕ) (these those : List (List ℕ)) → Ancestry ids name these → Ancestry ids name those → these ≡ those
 ancestry_once ids name _ _ (Ancestry.top e) (Ancestry.top f) = refl
 ancestry_once ids name _ _ (Ancestry.top e) (Ancestry.up f rest) = absurd (cc)
 ancestry_once ids name _ _ (Ancestry.up e rest) (Ancestry.top f) = absurd (cc)
@@ -69,38 +69,38 @@ method_of_file ids classes named member these those owner a first b none =
 -- what is listed from one class upward is listed from the same one
 listed_once : (ids : Ids) (named member this that : List ℕ) (these those : List (List ℕ)) (owner other : List ℕ) → IsBeyond ids named this → IsBeyond ids named that →
     Ancestry ids this these → First (Lists ids this member) these owner → Ancestry ids that those → First (Lists ids that member) those other → owner ≡ other
-listed_once ids named member this that these those owner other a b up first above second =
+listed_once ids named member this that these those owner other a b line first above second =
     let same = beyond_once ids named that this b a in
-    let order = ancestry_once ids this those these (subst (λ class. Ancestry ids class those) same above) up in
+    let order = ancestry_once ids this those these (subst (λ class. Ancestry ids class those) same above) line in
     first_once these owner other first
     (subst (λ (classes : List (List ℕ)). First (Lists ids this member) classes other) order (subst (λ (class : List ℕ). First (Lists ids class member) those other) same second))
 
 listed_or_not : (ids : Ids) (named member this that : List ℕ) (these those : List (List ℕ)) (owner : List ℕ) → IsBeyond ids named this → IsBeyond ids named that →
     Ancestry ids this these → First (Lists ids this member) these owner → Ancestry ids that those → NoneOf (Lists ids that member) those → ⊥
-listed_or_not ids named member this that these those owner a b up first above none =
+listed_or_not ids named member this that these those owner a b line first above none =
     let same = beyond_once ids named that this b a in
-    let order = ancestry_once ids this those these (subst (λ class. Ancestry ids class those) same above) up in
+    let order = ancestry_once ids this those these (subst (λ class. Ancestry ids class those) same above) line in
     first_is_none these owner first
     (subst (λ (classes : List (List ℕ)). NoneOf (Lists ids this member) classes) order (subst (λ (class : List ℕ). NoneOf (Lists ids class member) those) same none))
 
 pub one_method_owner : OneMethodOwner
 one_method_owner ids classes named member this that (MethodOwner.defined {order = these} a first) (MethodOwner.defined {order = those} b second) =
     first_once those this that (subst (λ order. First (DefinesMethod ids classes member) order this) (method_order_once ids named these those a b) first) second
-one_method_owner ids classes named member this that (MethodOwner.defined {order = these} a first) (MethodOwner.listed {order = those} b none beyond up listed) =
+one_method_owner ids classes named member this that (MethodOwner.defined {order = these} a first) (MethodOwner.listed {order = those} b none beyond line listed) =
     absurd (method_of_file ids classes named member these those this a first b none)
-one_method_owner ids classes named member this that (MethodOwner.defined {order = these} a first) (MethodOwner.outside {order = those} b none beyond up listed) =
+one_method_owner ids classes named member this that (MethodOwner.defined {order = these} a first) (MethodOwner.outside {order = those} b none beyond line listed) =
     absurd (method_of_file ids classes named member these those this a first b none)
-one_method_owner ids classes named member this that (MethodOwner.listed {order = those} b none beyond up listed) (MethodOwner.defined {order = these} a first) =
+one_method_owner ids classes named member this that (MethodOwner.listed {order = those} b none beyond line listed) (MethodOwner.defined {order = these} a first) =
     absurd (method_of_file ids classes named member these those that a first b none)
-one_method_owner ids classes named member this that (MethodOwner.listed {order = o} {above = these} {beyond = x} a none beyond up listed) (MethodOwner.listed {order = p} {above = those} {beyond = y} b not out above also) =
-    listed_once ids named member x y these those this that beyond out up listed above also
-one_method_owner ids classes named member this that (MethodOwner.listed {order = o} {above = these} {beyond = x} a none beyond up listed) (MethodOwner.outside {order = p} {above = those} b not out above unlisted) =
-    absurd (listed_or_not ids named member x that these those this beyond out up listed above unlisted)
-one_method_owner ids classes named member this that (MethodOwner.outside {order = those} b none beyond up listed) (MethodOwner.defined {order = these} a first) =
+one_method_owner ids classes named member this that (MethodOwner.listed {order = o} {above = these} {beyond = x} a none beyond line listed) (MethodOwner.listed {order = p} {above = those} {beyond = y} b not out above also) =
+    listed_once ids named member x y these those this that beyond out line listed above also
+one_method_owner ids classes named member this that (MethodOwner.listed {order = o} {above = these} {beyond = x} a none beyond line listed) (MethodOwner.outside {order = p} {above = those} b not out above unlisted) =
+    absurd (listed_or_not ids named member x that these those this beyond out line listed above unlisted)
+one_method_owner ids classes named member this that (MethodOwner.outside {order = those} b none beyond line listed) (MethodOwner.defined {order = these} a first) =
     absurd (method_of_file ids classes named member these those that a first b none)
-one_method_owner ids classes named member this that (MethodOwner.outside {order = p} {above = those} b not out above unlisted) (MethodOwner.listed {order = o} {above = these} {beyond = x} a none beyond up listed) =
-    absurd (listed_or_not ids named member x this these those that beyond out up listed above unlisted)
-one_method_owner ids classes named member this that (MethodOwner.outside a none beyond up listed) (MethodOwner.outside b not out above unlisted) = beyond_once ids named this that beyond out
+one_method_owner ids classes named member this that (MethodOwner.outside {order = p} {above = those} b not out above unlisted) (MethodOwner.listed {order = o} {above = these} {beyond = x} a none beyond line listed) =
+    absurd (listed_or_not ids named member x this these those that beyond out line listed above unlisted)
+one_method_owner ids classes named member this that (MethodOwner.outside a none beyond line listed) (MethodOwner.outside b not out above unlisted) = beyond_once ids named this that beyond out
 
 pub one_field_owner : OneFieldOwner
 one_field_owner ids classes named member this that (FieldOwner.defined {order = these} a first) (FieldOwner.defined {order = those} b second) =

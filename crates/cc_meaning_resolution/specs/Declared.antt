@@ -1,5 +1,5 @@
 -- The members that a class itself has: those that the file defines, and the built-in methods.
-use Rattle.std.specs.Prelude.{◌≡◌, ℕ, Bool, false, cond, if◌then◌else◌, List, [], ◌∷◌, ◌++◌, Option, Some, None, option_and_then, is_some, slice_get, find, position, codes, take}
+use Rattle.std.specs.Prelude.{ℕ, Bool, List, [], ◌∷◌, ◌++◌, Option, Some, None, option_and_then, slice_get, find, position, codes, take}
 use Rattle.std.specs.List.{flat_map}
 use Rattle.std.specs.Str.{bytes_eq}
 use Rattle.cc_meaning.specs.declared.file.ClassRow.{ClassRow}
@@ -9,7 +9,7 @@ use Rattle.cc_meaning.specs.declared.file.RawField.{RawField}
 use Rattle.cc_meaning.specs.declared.file.RawMethod.{RawMethod}
 use Rattle.cc_meaning.specs.declared.program.ClassKind.{ClassKind}
 use Rattle.cc_meaning.specs.declared.program.ClassKind.TheVariants as kind
-use Rattle.cc_meaning.specs.BuiltIn.{object_name, system_name}
+use Rattle.cc_meaning.specs.BuiltIn.{object_name}
 use Rattle.cc_meaning_run.specs.BuiltInMethods.{BuiltInMethod, BuiltInMethods, built_in_method, built_in_tables}
 use Rattle.cc_meaning_program.specs.Named.{type_name, field_member, method_member}
 use Rattle.cc_meaning_resolution.specs.Ancestry.{kind_of_class}

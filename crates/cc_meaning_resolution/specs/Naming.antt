@@ -1,5 +1,5 @@
 -- The instructions of a file in their order, and what each names after resolution.
-use Rattle.std.specs.Prelude.{◌≡◌, ◌⊎◌, ℕ, List, [], ◌∷◌, ◌++◌, Option, Some, None, slice_get, Contains}
+use Rattle.std.specs.Prelude.{◌≡◌, ℕ, List, [], ◌∷◌, ◌++◌, Option, Some, None, slice_get}
 use Rattle.cc_meaning.specs.declared.file.FieldRow.{FieldRow}
 use Rattle.cc_meaning.specs.declared.file.Ids.{Ids}
 use Rattle.cc_meaning.specs.declared.file.MethodRow.{MethodRow}

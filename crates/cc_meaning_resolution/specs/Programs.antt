@@ -1,35 +1,33 @@
 -- The program that a file and a main class give.
-use Rattle.std.specs.Prelude.{◌≡◌, ◌↔◌, ℕ, suc, ℤ, pos, ◌<◌, ◌≤◌, Bool, true, false, ◌&&◌, ◌==◌, not, cond, List, [], ◌∷◌, ◌++◌, length, map, Option, Some, None, is_some, slice_get, option_and_then, position, codes}
+use Rattle.std.specs.Prelude.{◌≡◌, ◌↔◌, ℕ, suc, ℤ, pos, ◌<◌, ◌≤◌, Bool, true, false, ◌&&◌, ◌==◌, not, cond, List, [], ◌∷◌, ◌++◌, length, map, reverse, Option, Some, None, is_some, slice_get, option_and_then, position, codes}
 use Rattle.std.specs.Str.{bytes_eq}
 use Rattle.cc_meaning.specs.declared.file.ClassRow.{ClassRow}
 use Rattle.cc_meaning.specs.declared.file.Ids.{Ids}
 use Rattle.cc_meaning.specs.declared.file.RawClass.{RawClass}
 use Rattle.cc_meaning.specs.declared.file.RawMethod.{RawMethod}
 use Rattle.cc_meaning.specs.declared.program.Class.{Class}
-use Rattle.cc_meaning.specs.declared.program.ClassKind.{ClassKind}
-use Rattle.cc_meaning.specs.declared.program.ClassKind.TheVariants as kind
 use Rattle.cc_meaning.specs.declared.program.Field.{Field}
 use Rattle.cc_meaning.specs.declared.program.Method.{Method}
 use Rattle.cc_meaning.specs.declared.program.Program.{Program}
-use Rattle.cc_meaning.specs.Names.{class_name, field_name, method_name, descriptor}
+use Rattle.cc_meaning.specs.Names.{field_name, method_name, descriptor}
 use Rattle.cc_meaning.specs.Order.{MethodsRise, FieldsRise}
 use Rattle.cc_meaning_classes.specs.CodeItems.{has_flag}
 use Rattle.cc_meaning_program.specs.ClassNames.{AreClassNames, AreTexts}
 use Rattle.cc_meaning_program.specs.Definitions.{Defines}
-use Rattle.cc_meaning_resolution.specs.Ancestry.{definition_of, kind_of_class, superclass_named, interfaces_named}
-use Rattle.cc_meaning_resolution.specs.Members.{IsMethod, IsField}
-use Rattle.cc_meaning_resolution.specs.Resolved.{whole_name}
+use Rattle.cc_meaning_resolution.specs.Ancestry.{Ancestry, definition_of, kind_of_class, superclass_named, interfaces_named}
+use Rattle.std.specs.List.{flat_map}
+use Rattle.cc_meaning_resolution.specs.Members.{IsMethod, IsField, BelongsMethod, BelongsField}
+use Rattle.cc_meaning_resolution.specs.Resolved.{whole_name, names_of}
 use Rattle.cc_meaning.specs.declared.program.StaticValue.{StaticValue}
 use Rattle.cc_meaning.specs.declared.program.StaticValue.TheVariants as value
 use Rattle.cc_meaning.specs.declared.file.RawField.{RawField}
-use Rattle.cc_meaning.specs.declared.program.DexType.{DexType}
 use Rattle.cc_meaning.specs.declared.instruction.Kind.{Kind}
 use Rattle.cc_meaning.specs.declared.instruction.Kind.TheVariants as kinds
 use Rattle.cc_meaning.specs.Kinds.{kind_of}
 use Rattle.cc_meaning.specs.declared.program.MethodKind.{MethodKind}
 use Rattle.cc_meaning.specs.declared.program.MethodKind.TheVariants as body
 use Rattle.cc_meaning.specs.Lookup.{class_named, method_named, text_numbered}
-use Rattle.cc_meaning_program.specs.Named.{type_name, field_member, text_of}
+use Rattle.cc_meaning_program.specs.Named.{field_member, text_of}
 use Rattle.cc_meaning_resolution.specs.Declared.{method_defined, members_of}
 
 -- ---- classes
@@ -38,22 +36,23 @@ unfoldable pub has_class_flag : ℕ → Option ClassRow → Bool
 has_class_flag flag None = false
 has_class_flag flag (Some stated) = has_flag stated.flags flag
 
-unfoldable pub layout_of : Option Class → List ℕ
-layout_of None = []
-layout_of (Some class) = class.layout
+unfoldable pub is_number : Option ℕ → ℕ → Bool
+is_number None number = false
+is_number (Some other) number = other == number
 
 unfoldable pub same_truth : Bool → Bool → Bool
 same_truth true truth = truth
 same_truth false truth = not truth
 
--- the fields that a class declares itself, static ones or others, in number order
-unfoldable pub own_fields_from : ℕ → ℕ → Bool → List Field → List ℕ
-own_fields_from number class is_static [] = []
-own_fields_from number class is_static (field ∷ fields) =
-    cond ((field.class == class) && same_truth field.is_static is_static) (number ∷ own_fields_from (suc number) class is_static fields) (own_fields_from (suc number) class is_static fields)
+-- the fields from this number on that a class declares itself, static ones or others
+unfoldable pub fields_from : ℕ → Option ℕ → Bool → List Field → List ℕ
+fields_from number class is_static [] = []
+fields_from number class is_static (field ∷ fields) =
+    cond (is_number class field.class && same_truth field.is_static is_static) (number ∷ fields_from (suc number) class is_static fields) (fields_from (suc number) class is_static fields)
 
-unfoldable pub own_fields : Program → ℕ → Bool → List ℕ
-own_fields program class is_static = own_fields_from 0 class is_static program.fields
+-- the fields that the class of this name declares itself, in number order
+unfoldable pub fields_of : Program → Bool → List ℕ → List ℕ
+fields_of program is_static class = fields_from 0 (class_named class program) is_static program.fields
 
 -- ---- static values
 
@@ -116,12 +115,15 @@ static_with_code program name = option_and_then (λ number. cond (is_run (slice_
 pub record IsClass (ids : Ids) (classes : List RawClass) (program : Program) (number : ℕ) (class : Class) : Type 0 where
   pub kind : class.kind ≡ kind_of_class ids class.name
   pub superclass : class.superclass ≡ option_and_then (λ name. class_named name program) (superclass_named ids class.name)
-  pub interfaces : map (class_name program) class.interfaces ≡ interfaces_named ids class.name
+  pub interfaces : map Some class.interfaces ≡ map (λ name. class_named name program) (interfaces_named ids class.name)
   pub is_interface : class.is_interface ≡ has_class_flag 512 (definition_of ids class.name)
   pub is_abstract : class.is_abstract ≡ has_class_flag 1024 (definition_of ids class.name)
-  pub layout : class.layout ≡ layout_of (option_and_then (slice_get program.classes) class.superclass) ++ own_fields program number false
+  pub ancestors : List (List ℕ)
+  pub ancestry : Ancestry ids class.name ancestors
+  -- the fields of the topmost class first
+  pub layout : class.layout ≡ flat_map (fields_of program false) (reverse ancestors)
   pub initialiser : class.initialiser ≡ static_with_code program (whole_name class.name (codes "<clinit>()V"))
-  pub values : AreValues ids classes program class.name (own_fields program number true) class.values
+  pub values : AreValues ids classes program class.name (fields_of program true class.name) class.values
 
 -- ---- the main method
 
@@ -146,23 +148,23 @@ HasMethod program name = (number : ℕ) × (method : Method) × (slice_get progr
 abbrev pub HasField : Program → List ℕ → Type 0
 HasField program name = (number : ℕ) × (field : Field) × (slice_get program.fields number ≡ Some field) × (field_name program field ≡ name)
 
--- a method belongs to a program: there is one of this class and this name
-abbrev pub IsMethodOf : Ids → List RawClass → Program → List ℕ → Type 0
-IsMethodOf ids classes program name = (owner : List ℕ) × (member : List ℕ) × (method : Method) × (name ≡ whole_name owner member) × IsMethod ids classes program owner member method
+-- the whole name of a method that belongs to the program
+abbrev pub IsMethodOf : Ids → List RawClass → List ℕ → Type 0
+IsMethodOf ids classes name = (owner : List ℕ) × (member : List ℕ) × (name ≡ whole_name owner member) × BelongsMethod ids classes owner member
 
-abbrev pub IsFieldOf : Ids → List RawClass → Program → List ℕ → Type 0
-IsFieldOf ids classes program name = (owner : List ℕ) × (member : List ℕ) × (field : Field) × (name ≡ whole_name owner member) × IsField ids classes program owner member field
+abbrev pub IsFieldOf : Ids → List RawClass → List ℕ → Type 0
+IsFieldOf ids classes name = (owner : List ℕ) × (member : List ℕ) × (name ≡ whole_name owner member) × BelongsField ids classes owner member
 
 -- The program of a file's tables and classes with a main class, where one is asked for: its classes, methods, fields and texts, each list in rising order of names,
 -- each once.
 pub record IsProgram (ids : Ids) (classes : List RawClass) (asked : Option (List ℕ)) (program : Program) : Type 0 where
-  pub class_names : AreClassNames ids (map (λ (class : Class). class.name) program.classes)
+  pub class_names : AreClassNames ids (names_of program)
   pub each_class : (number : ℕ) (class : Class) → slice_get program.classes number ≡ Some class → IsClass ids classes program number class
   pub methods_rise : MethodsRise program
-  pub methods : (name : List ℕ) → HasMethod program name ↔ IsMethodOf ids classes program name
+  pub methods : (name : List ℕ) → HasMethod program name ↔ IsMethodOf ids classes name
   pub each_method : (number : ℕ) (method : Method) → slice_get program.methods number ≡ Some method → (owner : List ℕ) × (member : List ℕ) × (class_named owner program ≡ Some method.class) × (method_name program method ≡ whole_name owner member) × IsMethod ids classes program owner member method
   pub fields_rise : FieldsRise program
-  pub fields : (name : List ℕ) → HasField program name ↔ IsFieldOf ids classes program name
+  pub fields : (name : List ℕ) → HasField program name ↔ IsFieldOf ids classes name
   pub each_field : (number : ℕ) (field : Field) → slice_get program.fields number ≡ Some field → (owner : List ℕ) × (member : List ℕ) × (class_named owner program ≡ Some field.class) × (field_name program field ≡ whole_name owner member) × IsField ids classes program owner member field
   pub texts : AreTexts ids program.texts
   pub main_class : List ℕ

@@ -1,5 +1,5 @@
 -- An instruction as the file has it, and as a program has it: with numbers of the program in place of rows.
-use Rattle.std.specs.Prelude.{◌≡◌, ℕ, ℤ, List, ◌++◌, Option, Some, None, slice_get, codes}
+use Rattle.std.specs.Prelude.{◌≡◌, ℕ, List, ◌++◌, map, Some, None, slice_get, codes}
 use Rattle.cc_meaning.specs.declared.file.Ids.{Ids}
 use Rattle.cc_meaning.specs.declared.file.MethodRow.{MethodRow}
 use Rattle.cc_meaning.specs.declared.file.RawClass.{RawClass}
@@ -15,8 +15,9 @@ use Rattle.cc_meaning.specs.declared.program.DexType.{DexType}
 use Rattle.cc_meaning.specs.declared.program.Placed.{Placed}
 use Rattle.cc_meaning.specs.declared.program.Program.{Program}
 use Rattle.cc_meaning.specs.Lookup.{class_named, method_named, field_named, text_numbered}
-use Rattle.cc_meaning.specs.Names.{descriptor}
+use Rattle.cc_meaning.specs.declared.program.Class.{Class}
 use Rattle.cc_meaning_program.specs.Named.{text_of, type_name}
+use Rattle.cc_meaning_program.specs.TypeNames.{Spells}
 use Rattle.cc_meaning_program.specs.References.{reference_of}
 use Rattle.cc_meaning_resolution.specs.Naming.{RowNamesMethod, RowNamesField}
 
@@ -24,9 +25,13 @@ use Rattle.cc_meaning_resolution.specs.Naming.{RowNamesMethod, RowNamesField}
 unfoldable pub whole_name : List ℕ → List ℕ → List ℕ
 whole_name class member = class ++ codes "->" ++ member
 
+-- the names of a program's classes
+unfoldable pub names_of : Program → List (List ℕ)
+names_of program = map (λ (class : Class). class.name) program.classes
+
 -- the type that a row of types is
 pub data TypeResolved (ids : Ids) (program : Program) : TypeRef → TypeRef → Type 0 where
-  named : {row : ℕ} {known : DexType} → descriptor program known ≡ type_name ids row → TypeResolved ids program (type.Row row) (type.Known known)
+  named : {row : ℕ} {known : DexType} → Spells (names_of program) known (type_name ids row) → TypeResolved ids program (type.Row row) (type.Known known)
 
 -- the class that a row of methods names, and the method that it is after resolution
 pub data MethodResolved (ids : Ids) (classes : List RawClass) (program : Program) : MethodRef → MethodRef → Type 0 where
