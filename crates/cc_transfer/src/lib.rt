@@ -1,6 +1,7 @@
 //! The rule of each instruction, executable: what it needs of the registers before it, and what it makes of them.
 #![tactic(auto)]
 
+mod addresses;
 mod arithmetic;
 mod arrays;
 mod body;
