@@ -1,3 +1,4 @@
 pub mod Elements
 pub mod Descriptors
 pub mod Places
+pub mod Targets

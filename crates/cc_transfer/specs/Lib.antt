@@ -1,2 +1,3 @@
 pub mod Landmarks
 pub mod Bodies
+pub mod Successors

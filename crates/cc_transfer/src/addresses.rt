@@ -1,10 +1,10 @@
 //! What stands at an address, and where control goes from there.
 
-ghost use Rattle.std.specs.Prelude.{◌≡◌, ◌↔◌, ◌==◌, ℕ, Some, IsTrue, MatchOption, All, map, position};
+ghost use Rattle.std.specs.Prelude.{◌≡◌, ◌↔◌, ◌==◌, ℕ, Some, IsTrue, All, map, position};
 ghost use Rattle.std.specs.Option.{option_copied};
 ghost use Rattle.cc_meaning.specs.declared.instruction.TypeRef.TheVariants as type;
 ghost use Rattle.cc_meaning.specs.declared.program.Placed.{Placed};
-ghost use Rattle.cc_meaning_typing.specs.Code.{address, placed_at, insn_at, is_payload, type_made_at, targets_in, case_targets};
+ghost use Rattle.cc_meaning_typing.specs.Code.{address, placed_at, insn_at, is_payload, type_made_at, targets_in};
 ghost use Rattle.cc_meaning_typing.specs.Types.{class_type};
 ghost use Rattle.cc_meaning_typing.specs.WellFormed.{IsLaidOut};
 ghost use Rattle.cc_meaning_typing.specs.WellTyped.{IsTarget, IsSwitchPayload, HasTargets};
@@ -107,21 +107,33 @@ fn is_payload(insn: &Insn) -> bool
     )
 }
 
-/// The targets in the payload of a switch, if it is of its kind.
+/// The targets in the payload of a switch, none where it is of another kind.
 #[tactic(auto, unfolding(cc_meaning_typing::specs::Code::targets_in))]
-fn switch_targets(code: &Code, at: u32, packed: bool, target: i32) -> Option<&[i32]>
+pub(crate) fn switch_targets(code: &Code, at: u32, packed: bool, target: i32) -> &[i32]
     requires { IsLaidOut code.now }
-    ensures { MatchOption result (IsSwitchPayload packed (insn_at code.now (address at target)) → ⊥)
-        (λ targets. IsSwitchPayload packed (insn_at code.now (address at target)) × (targets.now ≡ targets_in packed (insn_at code.now (address at target)))) }
+    ensures { result.now ≡ targets_in packed (insn_at code.now (address at target)) }
 {
     match insn_from(code, at, target) {
-        Some(Insn::PackedPayload { targets, .. }) if packed => Some(targets.as_slice()),
-        Some(Insn::SparsePayload { targets, .. }) if !packed => Some(targets.as_slice()),
-        _ => None,
+        Some(Insn::PackedPayload { targets, .. }) if packed => targets.as_slice(),
+        Some(Insn::SparsePayload { targets, .. }) if !packed => targets.as_slice(),
+        _ => &[],
+    }
+}
+
+/// Whether the payload of a switch stands where it has to, and is of its kind.
+fn has_payload(code: &Code, at: u32, packed: bool, target: i32) -> bool
+    requires { IsLaidOut code.now }
+    ensures { IsTrue result ↔ IsSwitchPayload packed (insn_at code.now (address at target)) }
+{
+    match insn_from(code, at, target) {
+        Some(Insn::PackedPayload { .. }) => packed,
+        Some(Insn::SparsePayload { .. }) => !packed,
+        _ => false,
     }
 }
 
 /// Whether instructions that are no payloads stand at all these places.
+#[tactic(auto, using(crate::proofs::Targets::one_of_all))]
 fn are_targets(code: &Code, at: u32, targets: &[i32]) -> bool
     requires { IsLaidOut code.now }
     ensures { IsTrue result ↔ All (IsTarget code.now) (map (address at) targets.now) }
@@ -134,20 +146,9 @@ fn are_targets(code: &Code, at: u32, targets: &[i32]) -> bool
     true
 }
 
-/// Whether the targets of a switch, its payload among them, stand where they have to.
-#[tactic(auto, unfolding(cc_meaning_typing::specs::Code::case_targets))]
-fn has_cases(code: &Code, at: u32, packed: bool, target: i32) -> bool
-    requires { IsLaidOut code.now }
-    ensures { IsTrue result ↔ (IsSwitchPayload packed (insn_at code.now (address at target)) × All (IsTarget code.now) (case_targets code.now at packed target)) }
-{
-    match switch_targets(code, at, packed, target) {
-        Some(targets) => are_targets(code, at, targets),
-        None => false,
-    }
-}
-
 /// Whether all targets of an instruction are instructions, or payloads of the right kind. Takes no memory.
 /// Source: Dalvik bytecode, instructions goto, if-test, packed-switch, sparse-switch and fill-array-data.
+#[tactic(auto, unfolding(cc_meaning_typing::specs::Code::case_targets))]
 pub fn has_targets(code: &Code, at: u32, insn: &Insn) -> bool
     requires { IsLaidOut code.now }
     ensures { IsTrue result ↔ HasTargets code.now at insn.now }
@@ -156,7 +157,10 @@ pub fn has_targets(code: &Code, at: u32, insn: &Insn) -> bool
         Insn::Goto { target } | Insn::If { target, .. } | Insn::IfZero { target, .. } => {
             is_target(code, address(at, *target))
         }
-        Insn::Switch { packed, target, .. } => has_cases(code, at, *packed, *target),
+        Insn::Switch { packed, target, .. } => {
+            has_payload(code, at, *packed, *target)
+                && are_targets(code, at, switch_targets(code, at, *packed, *target))
+        }
         Insn::FillArray { target, .. } => {
             matches!(insn_from(code, at, *target), Some(Insn::ArrayPayload { .. }))
         }

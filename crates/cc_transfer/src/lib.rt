@@ -5,6 +5,7 @@ mod addresses;
 mod arithmetic;
 mod arrays;
 mod body;
+mod branches;
 mod landmarks;
 mod members;
 mod moves;
