@@ -2,3 +2,4 @@ pub mod Elements
 pub mod Descriptors
 pub mod Places
 pub mod Targets
+pub mod Lengths
