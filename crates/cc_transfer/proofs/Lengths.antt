@@ -1,5 +1,5 @@
 -- No instruction changes how many registers there are.
-use Rattle.std.proofs.Common.{◌≡◌, ℕ, zero, suc, List, [], ◌∷◌, length, slice_set, slice_get, Option, Some, None, refl, sym, ◌∙◌, map}
+use Rattle.std.proofs.Common.{◌≡◌, ℕ, zero, suc, List, [], ◌∷◌, length, slice_set, slice_get, Option, Some, None, refl, ◌∙◌}
 use Rattle.std.proofs.Math.ListN.{length-set}
 use Rattle.std.proofs.lemmas.List.{length-map}
 use Rattle.cc_meaning.specs.declared.instruction.Conversion.{Conversion}
@@ -22,9 +22,8 @@ use Rattle.cc_meaning.specs.declared.program.RegType.TheVariants.{Unset, Int, Ze
 use Rattle.cc_meaning.specs.Kinds.{kind_of}
 use Rattle.cc_meaning_typing.specs.declared.state.Pending.{Pending}
 use Rattle.cc_meaning_typing.specs.declared.state.Pending.TheVariants.{Nothing, Result, Exception}
-use Rattle.cc_meaning_typing.specs.Registers.{register_of}
-use Rattle.cc_meaning_typing.specs.States.{clear_behind, clear_before, write, write_long, forget_fresh, construct, register_at, without_fresh, constructed}
-use Rattle.cc_meaning_typing.specs.Rules.{write_kind, write_declared, write_pending, int_constant, write_named, element_for, write_field, construct_known, registers_called, registers_converted, registers_after}
+use Rattle.cc_meaning_typing.specs.States.{clear_behind, clear_before, write, write_long, forget_fresh, construct}
+use Rattle.cc_meaning_typing.specs.Rules.{write_kind, write_declared, write_pending, write_named, write_field, construct_known, registers_called, registers_converted, registers_after}
 
 set_keeps : (registers : List RegType) (r : ℕ) (a : RegType) → length (slice_set registers r a) ≡ length registers
 set_keeps registers r a = length-set registers r a

@@ -1,12 +1,12 @@
 //! What stands at an address, and where control goes from there.
 
-ghost use Rattle.std.specs.Prelude.{◌≡◌, ◌↔◌, ◌==◌, ℕ, Some, IsTrue, All, map, position};
+ghost use Rattle.std.specs.Prelude.{◌≡◌, ◌↔◌, ℕ, Some, IsTrue, All, map};
 ghost use Rattle.std.specs.Option.{option_copied};
 ghost use Rattle.cc_meaning.specs.declared.instruction.TypeRef.TheVariants as type;
-ghost use Rattle.cc_meaning.specs.declared.program.Placed.{Placed};
 ghost use Rattle.cc_meaning_typing.specs.Code.{address, placed_at, insn_at, is_payload, type_made_at, targets_in};
 ghost use Rattle.cc_meaning_typing.specs.Types.{class_type};
 ghost use Rattle.cc_meaning_typing.specs.WellFormed.{IsLaidOut};
+ghost use Rattle.cc_transfer.specs.Laws.{Places, place_of};
 ghost use Rattle.cc_meaning_typing.specs.WellTyped.{IsTarget, IsSwitchPayload, HasTargets};
 
 use crate::types::class_type;
@@ -25,10 +25,16 @@ pub fn address(at: u32, offset: i32) -> Option<u64>
     if to < 0 { None } else { Some(to as u64) }
 }
 
+/// In code that is laid out each instruction has its own place and its own address.
+#[tactic(auto, using(crate::proofs::Places::places_hold))]
+pub fn law_places()
+    ensures { Places }
+{}
+
 /// The place of the instruction at an address among those of a method, by binary search. Takes no memory.
 pub fn place_at(code: &Code, at: u64) -> Option<usize>
     requires { IsLaidOut code.now }
-    ensures { result ≡ position (λ (placed : Placed). placed.at == at) code.now.insns }
+    ensures { result ≡ place_of code.now at }
 {
     match code
         .insns
@@ -78,10 +84,12 @@ pub(crate) fn makes(code: &Code, at: u32, class: ClassIx) -> bool
     ensures { IsTrue result ↔ (type_made_at code.now at ≡ Some (type.Known (class_type class))) }
 {
     match insn_at(code, Some(u64::from(at))) {
-        Some(Insn::NewInstance {
-            named: TypeRef::Known(ty),
-            ..
-        }) => same_type(*ty, class_type(class)),
+        Some(
+            Insn::NewInstance {
+                named: TypeRef::Known(ty),
+                ..
+            },
+        ) => same_type(*ty, class_type(class)),
         _ => false,
     }
 }
@@ -162,7 +170,10 @@ pub fn has_targets(code: &Code, at: u32, insn: &Insn) -> bool
                 && are_targets(code, at, switch_targets(code, at, *packed, *target))
         }
         Insn::FillArray { target, .. } => {
-            matches!(insn_from(code, at, *target), Some(Insn::ArrayPayload { .. }))
+            matches!(
+                insn_from(code, at, *target),
+                Some(Insn::ArrayPayload { .. })
+            )
         }
         _ => true,
     }

@@ -142,12 +142,7 @@ fn construct(registers: &mut List<RegType>, made: u32, ty: DexType)
 
 /// Constructs the object that a register knows, if its constructor was still to be called.
 #[tactic(auto, unfolding(cc_meaning_typing::specs::Rules::construct_known))]
-fn construct_known(
-    registers: &mut List<RegType>,
-    program: &Program,
-    class: ClassIx,
-    known: RegType,
-)
+fn construct_known(registers: &mut List<RegType>, program: &Program, class: ClassIx, known: RegType)
     requires { IsHierarchy program.now }
     ensures { registers.new ≡ construct_known program.now registers.old class known }
 {
@@ -159,13 +154,7 @@ fn construct_known(
 
 /// What a call makes of the registers.
 #[tactic(auto, unfolding(cc_meaning_typing::specs::Rules::registers_called))]
-fn call(
-    registers: &mut List<RegType>,
-    program: &Program,
-    how: How,
-    named: MethodRef,
-    args: &[u16],
-)
+fn call(registers: &mut List<RegType>, program: &Program, how: How, named: MethodRef, args: &[u16])
     requires { IsHierarchy program.now }
     ensures { registers.new ≡ registers_called program.now registers.old how named args.now }
 {
@@ -226,7 +215,10 @@ fn change(
             write(registers, *to, RegType::Fresh(made));
         }
         Insn::ArrayGet {
-            kind, to, array, ..
+            kind,
+            to,
+            array,
+            ..
         } => {
             let known = element_for(*kind, register(registers, *array as usize));
             write_kind(registers, *to, known, *kind);

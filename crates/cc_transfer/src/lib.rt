@@ -17,7 +17,7 @@ mod rules;
 mod states;
 mod types;
 
-pub use addresses::{address, has_targets, is_target, place_at, placed_at};
+pub use addresses::{address, has_targets, is_target, law_places, place_at, placed_at};
 pub use body::MethodBody;
 pub use branches::{SuccessorAddresses, handlers, successors, take_references};
 pub use effects::apply;

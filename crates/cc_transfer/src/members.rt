@@ -125,10 +125,7 @@ fn behind_second<'a>(
     match args {
         [second, rest @ ..]
             if u32::from(*second) == u32::from(first) + 1
-                && holds(program, state, *second, RegType::LongHigh) =>
-        {
-            Some(rest)
-        }
+                && holds(program, state, *second, RegType::LongHigh) => { Some(rest) }
         _ => None,
     }
 }

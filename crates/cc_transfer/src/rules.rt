@@ -7,17 +7,13 @@ ghost use Rattle.cc_transfer.specs.Bodies.{body_of};
 
 use crate::addresses::insn_from;
 use crate::arithmetic::{compares, compares_zero, converts, holds_count};
-use crate::arrays::{
-    accepts_array_get, accepts_array_put, fills_new, holds_array, holds_numbers,
-};
+use crate::arrays::{accepts_array_get, accepts_array_put, fills_new, holds_array, holds_numbers};
 use crate::body::MethodBody;
 use crate::members::{
     accepts_field_get, accepts_field_put, accepts_static_get, accepts_static_put, calls,
 };
 use crate::moves::{accepts_move, accepts_move_exception, accepts_move_result, accepts_return};
-use crate::registers::{
-    holds, holds_int, holds_pair, holds_reference, writes_one, writes_pair,
-};
+use crate::registers::{holds, holds_int, holds_pair, holds_reference, writes_one, writes_pair};
 use crate::types::{class_type, names_array, names_reference};
 use cc_meaning::instruction::Insn;
 use cc_meaning::program::RegType;
@@ -83,7 +79,10 @@ pub fn accepts(body: &MethodBody<'_>, at: u32, state: &State, insn: &Insn) -> bo
                 && holds_pair(body, state, *right)
         }
         Insn::If {
-            test, left, right, ..
+            test,
+            left,
+            right,
+            ..
         } => compares(body, state, *test, *left, *right),
         Insn::IfZero { test, value, .. } => compares_zero(body, state, *test, *value),
         Insn::ArrayGet {
@@ -114,9 +113,7 @@ pub fn accepts(body: &MethodBody<'_>, at: u32, state: &State, insn: &Insn) -> bo
         Insn::StaticPut { kind, from, field } => {
             accepts_static_put(body, state, *kind, *from, *field)
         }
-        Insn::Invoke { how, named, args } => {
-            calls(body, state, *how, *named, args.as_slice())
-        }
+        Insn::Invoke { how, named, args } => { calls(body, state, *how, *named, args.as_slice()) }
         Insn::IntUnary { to, from, .. } => {
             writes_one(body, *to) && holds_int(body, state, *from)
         }
@@ -125,11 +122,12 @@ pub fn accepts(body: &MethodBody<'_>, at: u32, state: &State, insn: &Insn) -> bo
         }
         Insn::Convert { op, to, from } => converts(body, state, *op, *to, *from),
         Insn::IntOp {
-            to, left, right, ..
+            to,
+            left,
+            right,
+            ..
         } => {
-            writes_one(body, *to)
-                && holds_int(body, state, *left)
-                && holds_int(body, state, *right)
+            writes_one(body, *to) && holds_int(body, state, *left) && holds_int(body, state, *right)
         }
         Insn::LongOp {
             op,
@@ -142,8 +140,7 @@ pub fn accepts(body: &MethodBody<'_>, at: u32, state: &State, insn: &Insn) -> bo
                 && holds_count(body, state, *op, *right)
         }
         Insn::IntLit { to, left, .. } => writes_one(body, *to) && holds_int(body, state, *left),
-        Insn::PackedPayload { .. }
-        | Insn::SparsePayload { .. }
-        | Insn::ArrayPayload { .. } => false,
+        Insn::PackedPayload { .. } | Insn::SparsePayload { .. } | Insn::ArrayPayload { .. } =>
+            false,
     }
 }

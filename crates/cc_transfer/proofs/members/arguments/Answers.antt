@@ -1,4 +1,4 @@
-use Rattle.std.proofs.Common.{suc, ◌<◌, List, drop, drop-cons, subst}
+use Rattle.std.proofs.Common.{suc, List, drop, drop-cons, subst}
 use Rattle.cc_meaning.specs.declared.program.Base.TheVariants as base
 use Rattle.cc_meaning.specs.declared.program.DexType.{DexType}
 use Rattle.cc_meaning_typing.specs.Rules.{Arguments}
