@@ -15,6 +15,7 @@ use std::marker::Model;
 
 /// Addresses that control goes to from an instruction which doesn't throw, in order: the next one, the target of a jump, the cases of a switch. An address
 /// before the first is `None`.
+#[derive(Drop)]
 pub struct SuccessorAddresses<'a> {
     at: u32,
     next: Option<u32>,
