@@ -134,7 +134,7 @@ fn methods(alloc: Global) -> Result<Methods, AllocError>
 }
 
 /// The program of the worked rules.
-#[tactic(auto, using(crate::proofs::Sample::well_formed))]
+#[tactic(auto, using(crate::proofs::Placed::well_formed))]
 pub fn program(alloc: Global) -> Result<Program, AllocError>
     ensures { IfOk result (λ program. IsWellFormed program) }
 {
@@ -183,7 +183,7 @@ fn insns(alloc: Global) -> Result<Insns, AllocError>
 }
 
 /// Code of six registers. A try covers the address 1.
-#[tactic(auto, using(crate::proofs::Sample::laid_out))]
+#[tactic(auto, using(crate::proofs::Placed::laid_out))]
 pub fn code(alloc: Global) -> Result<Code, AllocError>
     ensures { IfOk result (λ code. IsLaidOut code) }
 {

@@ -1,5 +1,5 @@
 -- The small program is well formed, and the small code is laid out.
-use Rattle.std.proofs.Common.{◌≡◌, ℕ, zero, suc, ◌+◌, ◌<◌, ◌≤◌, ◌^◌, Bool, true, false, ◌&&◌, List, [], ◌∷◌, length, All, AllPairs, Some, slice_get, slice_index_or, refl, arith, rules}
+use Rattle.std.proofs.Common.{◌≡◌, ℕ, zero, suc, ◌+◌, ◌<◌, ◌≤◌, ◌^◌, Bool, true, false, ◌&&◌, List, [], ◌∷◌, length, All, AllPairs, Some, slice_get, refl, sym, ap, arith}
 use Rattle.std.specs.Cmp.Lexicographic.{slice_cmp}
 use Rattle.std.specs.Ordering.{nat_cmp, is_lt}
 use Rattle.std.specs.declared.cmp.Ordering.{Ordering}
@@ -45,7 +45,7 @@ rise (x ∷ xs) = is_before_all x xs && rise xs
 
 all_rise : (xs : List Class) → rise xs ≡ true → IsRisingByName xs
 unfolding rise
-all_rise [] e i j d h g = absurd (omega arith)
+all_rise [] e = λ i j d h g. absurd (omega arith)
 all_rise (x ∷ xs) e = let b = both (is_before_all x xs) (rise xs) e in AllPairs-cons (λ (x : Class) (y : Class). IsBefore x.name y.name) x xs (before_all x xs b.0) (all_rise xs b.1)
 
 classes_rise : IsRisingByName classes
@@ -83,28 +83,35 @@ well_formed hierarchy = record {
 
 -- ---- instructions are laid out
 
+parts : (a b : Placed) → Some a ≡ Some b → (a.at ≡ b.at) × (a.units ≡ b.units)
+parts a b e = let f : a ≡ b = cc in (ap (λ (z : Placed). z.at) f, ap (λ (z : Placed). z.units) f)
+
 begins : (placed : Placed) → slice_get sample_insns 0 ≡ Some placed → placed.at ≡ 0
-begins placed e = cc
+begins placed e = sym (parts _ placed e).0
 
 follows : (k : ℕ) (placed next : Placed) → slice_get sample_insns k ≡ Some placed → slice_get sample_insns (suc k) ≡ Some next → next.at ≡ placed.at + placed.units
-follows zero placed next e f = ?
-follows (suc zero) placed next e f = ?
-follows (suc (suc zero)) placed next e f = ?
+follows zero placed next e f = let p = parts _ placed e in let q = parts _ next f in omega (arith, p.0, p.1, q.0)
+follows (suc zero) placed next e f = let p = parts _ placed e in let q = parts _ next f in omega (arith, p.0, p.1, q.0)
+follows (suc (suc zero)) placed next e f = let p = parts _ placed e in let q = parts _ next f in omega (arith, p.0, p.1, q.0)
 follows (suc (suc (suc k))) placed next e f = absurd cc
 
 takes : (k : ℕ) (placed : Placed) → slice_get sample_insns k ≡ Some placed → 0 < placed.units
-takes zero placed e = ?
-takes (suc zero) placed e = ?
-takes (suc (suc zero)) placed e = ?
-takes (suc (suc (suc zero))) placed e = ?
+takes zero placed e = let p = parts _ placed e in omega (arith, p.1)
+takes (suc zero) placed e = let p = parts _ placed e in omega (arith, p.1)
+takes (suc (suc zero)) placed e = let p = parts _ placed e in omega (arith, p.1)
+takes (suc (suc (suc zero))) placed e = let p = parts _ placed e in omega (arith, p.1)
 takes (suc (suc (suc (suc k)))) placed e = absurd cc
 
+-- the last address is 15
+short : (k : ℕ) (placed : Placed) → slice_get sample_insns k ≡ Some placed → placed.at + placed.units ≤ 15
+short zero placed e = let p = parts _ placed e in omega (arith, p.0, p.1)
+short (suc zero) placed e = let p = parts _ placed e in omega (arith, p.0, p.1)
+short (suc (suc zero)) placed e = let p = parts _ placed e in omega (arith, p.0, p.1)
+short (suc (suc (suc zero))) placed e = let p = parts _ placed e in omega (arith, p.0, p.1)
+short (suc (suc (suc (suc k)))) placed e = absurd cc
+
 fits : (k : ℕ) (placed : Placed) → slice_get sample_insns k ≡ Some placed → placed.at + placed.units < 2 ^ 32
-fits zero placed e = ?
-fits (suc zero) placed e = ?
-fits (suc (suc zero)) placed e = ?
-fits (suc (suc (suc zero))) placed e = ?
-fits (suc (suc (suc (suc k)))) placed e = absurd cc
+fits k placed e = let s = short k placed e in omega arith
 
 pub laid_out : (code : Code) → code.insns ≡ sample_insns → IsLaidOut code
 laid_out code e = record { begins = rw e begins; follows = rw e follows; takes = rw e takes; fits = rw e fits }
