@@ -10,7 +10,7 @@ use Rattle.cc_meaning_plain.specs.Plain.{IsPlain}
 use Rattle.cc_meaning_clone.specs.Hello.{no_script}
 use Rattle.cc_cli.specs.Plans.{IsNotPlain, RunPlan}
 use Rattle.cc_cli.specs.Runs.{Sources, CallPlan}
-use Rattle.cc_cli.specs.Offloading.{Names, ReadPlan, was_read}
+use Rattle.cc_cli.specs.Offloading.{LinkTells, Names, ReadPlan, was_read}
 
 -- what holds of a plan that was made holds in other words
 pub on_plan : (made : Result Plan AllocError) (P Q : Plan → Type 0) → ((plan : Plan) → P plan → Q plan) → IfOk made P → IfOk made Q
@@ -45,8 +45,8 @@ found_none lent file found same is h =
     subst IsNotPlain same (subst (λ (o : Option Plain). MatchOption o (IsNotPlain lent) (λ p. IsPlain lent p)) is h)
 
 -- the words run a file
-pub run_call : (words : Option (List ℕ)) (names : Option Names) (old new : Sources) (untouched trusted : Type 0) (name : List ℕ) (made : Result Plan AllocError) → Some name ≡ words → untouched
-    → IfOk made (λ plan. RunPlan old.known old.counts name new.counts plan) → IfOk made (λ plan. CallPlan words names old new untouched trusted plan)
-run_call words names old new untouched trusted name made e u p =
-    subst (λ (w : Option (List ℕ)). IfOk made (λ plan. CallPlan w names old new untouched trusted plan)) e
-    (on_plan made (λ plan. RunPlan old.known old.counts name new.counts plan) (λ plan. CallPlan (Some name) names old new untouched trusted plan) (λ plan h. (h, u)) p)
+pub run_call : (words : Option (List ℕ)) (names : Option Names) (old new : Sources) (tells : LinkTells) (name : List ℕ) (made : Result Plan AllocError) → Some name ≡ words → tells.untouched
+    → IfOk made (λ plan. RunPlan old.known old.counts name new.counts plan) → IfOk made (λ plan. CallPlan words names old new tells plan)
+run_call words names old new tells name made e u p =
+    subst (λ (w : Option (List ℕ)). IfOk made (λ plan. CallPlan w names old new tells plan)) e
+    (on_plan made (λ plan. RunPlan old.known old.counts name new.counts plan) (λ plan. CallPlan (Some name) names old new tells plan) (λ plan h. (h, u)) p)

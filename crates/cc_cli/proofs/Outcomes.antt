@@ -23,9 +23,9 @@ use Rattle.cc_cli.specs.declared.fault.Fault.{Fault}
 use Rattle.cc_cli.specs.declared.fault.Fault.TheVariants as faults
 use Rattle.cc_cli.specs.Faults.{status_of, fault_plan}
 use Rattle.cc_cli.specs.Plans.{Returns}
-use Rattle.cc_cli.specs.Offloading.{Names, longest_text, ReadPlan, failed, absent, too_large, was_read, OffloadedPlan, Offloaded, TextPlan, PartitionPlan, ScriptPlan, FilePlan, OffloadPlan}
+use Rattle.cc_cli.specs.Offloading.{LinkTells, Names, longest_text, ReadPlan, failed, absent, too_large, was_read, OffloadedPlan, Offloaded, TextPlan, PartitionPlan, ScriptPlan, FilePlan, OffloadPlan}
 use Rattle.cc_cli.specs.Runs.{Outside}
-use Rattle.cc_cli.specs.Statuses.{Says, NextRead, the_file, the_script, the_partition, IsRefused, by_file, by_script, by_partition, DueByFiles, RanThere, OffloadsFiles, Transparent}
+use Rattle.cc_cli.specs.Statuses.{MigratesAll, Says, NextRead, the_file, the_script, the_partition, IsRefused, by_file, by_script, by_partition, DueByFiles, RanThere, OffloadsFiles, Transparent}
 use Rattle.cc_cli.proofs.Due.{told_early, told_due}
 
 some_same : {A : Type 0} {a b : A} → Some a ≡ Some b → a ≡ b
@@ -44,26 +44,26 @@ falls_on a b c h k = record {
 -- ---- the outcomes
 
 -- a file wasn't read, what was read is refused, the file ran, or there was no memory
-pub data Outcome (names : Names) (plan : Plan) (old new : Outside) (untouched trusted : Type 0) : Type 0 where
-  files_failed : (name : List ℕ) (limit : ℕ) → NextRead names old.known name limit → Rose old.counts.faults new.counts.faults → plan ≡ fault_plan faults.ReadFault name → untouched →
-      Outcome names plan old new untouched trusted
-  file_absent : (name : List ℕ) (limit : ℕ) → NextRead names old.known name limit → IsAbsent old.known name → Rose old.counts.misses new.counts.misses → plan ≡ fault_plan faults.Absent name → untouched →
-      Outcome names plan old new untouched trusted
-  file_too_large : (name : List ℕ) (limit : ℕ) → NextRead names old.known name limit → IsLonger old.known name limit → Rose old.counts.misses new.counts.misses → plan ≡ fault_plan faults.TooLarge name → untouched →
-      Outcome names plan old new untouched trusted
-  files_refused : IsRefused names old.known → plan ≡ fault_plan faults.NotBuilt [] → untouched → Outcome names plan old new untouched trusted
+pub data Outcome (names : Names) (plan : Plan) (old new : Outside) (tells : LinkTells) : Type 0 where
+  files_failed : (name : List ℕ) (limit : ℕ) → NextRead names old.known name limit → Rose old.counts.faults new.counts.faults → plan ≡ fault_plan faults.ReadFault name → tells.untouched →
+      Outcome names plan old new tells
+  file_absent : (name : List ℕ) (limit : ℕ) → NextRead names old.known name limit → IsAbsent old.known name → Rose old.counts.misses new.counts.misses → plan ≡ fault_plan faults.Absent name → tells.untouched →
+      Outcome names plan old new tells
+  file_too_large : (name : List ℕ) (limit : ℕ) → NextRead names old.known name limit → IsLonger old.known name limit → Rose old.counts.misses new.counts.misses → plan ≡ fault_plan faults.TooLarge name → tells.untouched →
+      Outcome names plan old new tells
+  files_refused : IsRefused names old.known → plan ≡ fault_plan faults.NotBuilt [] → tells.untouched → Outcome names plan old new tells
   file_ran : (file : List ℕ) (plain : Plain) (text : List ℕ) (moved : Option ℕ) → IsFile old.known names.file file → IsPlain file plain → IsFile old.known names.script no_script →
-      IsFile old.known names.partition text → IsPartition plain text moved → Offloaded names.place old.link old.calls new.link new.calls untouched trusted file plain moved plan →
-      Outcome names plan old new untouched trusted
-  no_memory : plan ≡ fault_plan faults.Memory [] → Outcome names plan old new untouched trusted
+      IsFile old.known names.partition text → IsPartition plain text moved → Offloaded names.place old.link old.calls new.link new.calls tells file plain moved plan →
+      Outcome names plan old new tells
+  no_memory : plan ≡ fault_plan faults.Memory [] → Outcome names plan old new tells
 
-module _ (names : Names) (plan : Plan) (old new : Outside) (untouched trusted : Type 0) where
+module _ (names : Names) (plan : Plan) (old new : Outside) (tells : LinkTells) where
   abbrev Comes : Type 0
-  Comes = Outcome names plan old new untouched trusted
+  Comes = Outcome names plan old new tells
 
   -- a file is read, and goes on where it was
   reads_on : (name : List ℕ) (limit : ℕ) → NextRead names old.known name limit → (middle : Counts) → NeverFall old.counts middle → (Then : List ℕ → Counts → Type 0)
-      → ReadPlan old.known middle name limit new.counts untouched plan Then
+      → ReadPlan old.known middle name limit new.counts tells.untouched plan Then
       → ((bytes : List ℕ) (later : Counts) → IsFile old.known name bytes → length bytes ≤ limit → NeverFall old.counts later → Then bytes later → Comes) → Comes
   reads_on name limit next middle falls Then (failed rose e u) go = files_failed name limit next (rose_from old.counts.faults middle.faults new.counts.faults falls.faults rose) e u
   reads_on name limit next middle falls Then (absent gone rose e u) go = file_absent name limit next gone (rose_from old.counts.misses middle.misses new.counts.misses falls.misses rose) e u
@@ -72,34 +72,34 @@ module _ (names : Names) (plan : Plan) (old new : Outside) (untouched trusted : 
 
   module _ (file : List ℕ) (plain : Plain) (is_file : IsFile old.known names.file file) (is_plain : IsPlain file plain) where
     by_text : (text : List ℕ) → IsFile old.known names.script no_script → IsFile old.known names.partition text → length text ≤ longest_text
-        → TextPlan names.place old.link old.calls new.link new.calls untouched trusted file plain text plan → Comes
+        → TextPlan names.place old.link old.calls new.link new.calls tells file plain text plan → Comes
     by_text text script is short (inl refused) = files_refused (by_partition file plain text is_file is_plain script is short refused.0) refused.1 refused.2
     by_text text script is short (inr ran) = file_ran file plain text ran.0 is_file is_plain script is ran.1 ran.2
 
     by_the_script : (script : List ℕ) (middle : Counts) → IsFile old.known names.script script → length script ≤ longest_text → NeverFall old.counts middle
-        → ScriptPlan names old.known new.counts old.link old.calls new.link new.calls untouched trusted file plain plan script middle → Comes
+        → ScriptPlan names old.known new.counts old.link old.calls new.link new.calls tells file plain plan script middle → Comes
     by_the_script script middle is short falls (inl refused) = files_refused (by_script file plain script is_file is_plain is short refused.0) refused.1.0 refused.1.2
     by_the_script script middle is short falls (inr on) =
         let right : IsFile old.known names.script no_script = subst (λ (t : List ℕ). IsFile old.known names.script t) on.0 is in
         reads_on names.partition longest_text (the_partition file plain is_file is_plain right refl refl) middle falls
-        (PartitionPlan names old.known new.counts old.link old.calls new.link new.calls untouched trusted file plain plan) on.1
+        (PartitionPlan names old.known new.counts old.link old.calls new.link new.calls tells file plain plan) on.1
         (λ text later is_text text_short text_falls then. by_text text right is_text text_short then.1)
 
   by_the_file : (file : List ℕ) (middle : Counts) → IsFile old.known names.file file → length file ≤ longest_file → NeverFall old.counts middle
-      → FilePlan names old.known new.counts old.link old.calls new.link new.calls untouched trusted plan file middle → Comes
+      → FilePlan names old.known new.counts old.link old.calls new.link new.calls tells plan file middle → Comes
   by_the_file file middle is short falls (inl refused) = files_refused (by_file file is short refused.0) refused.1.0 refused.1.2
   by_the_file file middle is short falls (inr on) =
       reads_on names.script longest_text (the_script file on.0 is on.1 refl refl) middle falls
-      (ScriptPlan names old.known new.counts old.link old.calls new.link new.calls untouched trusted file on.0 plan) on.2
+      (ScriptPlan names old.known new.counts old.link old.calls new.link new.calls tells file on.0 plan) on.2
       (λ script later is_script script_short script_falls then. by_the_script file on.0 is on.1 script later is_script script_short script_falls then)
 
   same_counts : NeverFall old.counts old.counts
   same_counts = record { faults = omega arith; write_faults = omega arith; misses = omega arith }
 
-  pub outcome : OffloadPlan names old.known new.counts old.link old.calls new.link new.calls untouched trusted old.counts plan → Comes
+  pub outcome : OffloadPlan names old.known new.counts old.link old.calls new.link new.calls tells old.counts plan → Comes
   outcome h =
       reads_on names.file longest_file (the_file refl refl) old.counts same_counts
-      (FilePlan names old.known new.counts old.link old.calls new.link new.calls untouched trusted plan) h
+      (FilePlan names old.known new.counts old.link old.calls new.link new.calls tells plan) h
       (λ file later is short falls then. by_the_file file later is short falls then)
 
 -- ---- what they end with
@@ -110,9 +110,9 @@ ended_so ending.Returned line h = inl refl
 ended_so (ending.Thrown class message) line h = absurd cc
 ended_so (ending.Stopped stop) line h = inr refl
 
-module _ (names : Names) (plan : Plan) (old new : Outside) (untouched trusted : Type 0) (s : ℕ) where
+module _ (names : Names) (plan : Plan) (old new : Outside) (tells : LinkTells) (s : ℕ) where
   abbrev Came : Type 0
-  Came = Outcome names plan old new untouched trusted
+  Came = Outcome names plan old new tells
 
   abbrev Carried : Type 0
   Carried = Ends plan old.out old.notes s new.out new.notes
@@ -149,7 +149,7 @@ module _ (names : Names) (plan : Plan) (old new : Outside) (untouched trusted : 
   no_fault_ran : (fault : Fault) (name : List ℕ) → plan ≡ fault_plan fault name → Planned → status_of fault ≢ 0 → status_of fault ≢ 2 → (s ≡ 0) ⊎ (s ≡ 2) → ⊥
   no_fault_ran fault name e a n m z = neither (status_of fault) z (fault_status fault name e a) n m
 
-  ran_by : Came → Planned → (s ≡ 0) ⊎ (s ≡ 2) → RanThere names old s new untouched trusted
+  ran_by : Came → Planned → (s ≡ 0) ⊎ (s ≡ 2) → RanThere names old s new tells
   ran_by (files_failed name limit next rose e u) a z = absurd (no_fault_ran faults.ReadFault name e a (λ h. omega (arith, h)) (λ h. omega (arith, h)) z)
   ran_by (file_absent name limit next gone rose e u) a z = absurd (no_fault_ran faults.Absent name e a (λ h. omega (arith, h)) (λ h. omega (arith, h)) z)
   ran_by (file_too_large name limit next long rose e u) a z = absurd (no_fault_ran faults.TooLarge name e a (λ h. omega (arith, h)) (λ h. omega (arith, h)) z)
@@ -175,6 +175,10 @@ module _ (names : Names) (plan : Plan) (old new : Outside) (untouched trusted : 
     notes = a.notes ∙ ap (λ (p : Plan). more p.notes old.notes.text) o.is_plan.is_plan;
     transparent = o.transparent;
     complete = o.complete;
+    prompt = o.prompt;
+    migrates = o.migrates;
+    last = o.last;
+    unmoved = o.unmoved;
   }
 
   throws_by : Came → Planned → s ≢ 1
@@ -185,7 +189,7 @@ module _ (names : Names) (plan : Plan) (old new : Outside) (untouched trusted : 
   throws_by (no_memory e) a z = omega (arith, fault_status faults.Memory [] e a, z)
   throws_by (file_ran file plain text moved h0 h1 h2 h3 h4 o) a z = neither 1 (ran_status o.report o.travel o.is_plan a) z (λ h. omega (arith, h)) (λ h. omega (arith, h))
 
-  refused_by : Came → Planned → s ≡ 80 → IsRefused names old.known × Says faults.NotBuilt [] old new × untouched
+  refused_by : Came → Planned → s ≡ 80 → IsRefused names old.known × Says faults.NotBuilt [] old new × tells.untouched
   refused_by (files_failed name limit next rose e u) a z = absurd (omega (arith, fault_status faults.ReadFault name e a, z))
   refused_by (file_absent name limit next gone rose e u) a z = absurd (omega (arith, fault_status faults.Absent name e a, z))
   refused_by (file_too_large name limit next long rose e u) a z = absurd (omega (arith, fault_status faults.TooLarge name e a, z))
@@ -193,7 +197,7 @@ module _ (names : Names) (plan : Plan) (old new : Outside) (untouched trusted : 
   refused_by (no_memory e) a z = absurd (omega (arith, fault_status faults.Memory [] e a, z))
   refused_by (file_ran file plain text moved h0 h1 h2 h3 h4 o) a z = absurd (neither 80 (ran_status o.report o.travel o.is_plan a) z (λ h. omega (arith, h)) (λ h. omega (arith, h)))
 
-  failed_by : Came → Planned → s ≡ 71 → (name : List ℕ) × (limit : ℕ) × NextRead names old.known name limit × Rose old.counts.faults new.counts.faults × Says faults.ReadFault name old new × untouched
+  failed_by : Came → Planned → s ≡ 71 → (name : List ℕ) × (limit : ℕ) × NextRead names old.known name limit × Rose old.counts.faults new.counts.faults × Says faults.ReadFault name old new × tells.untouched
   failed_by (files_failed name limit next rose e u) a z = (name, limit, next, rose, fault_says faults.ReadFault name e a, u)
   failed_by (file_absent name limit next gone rose e u) a z = absurd (omega (arith, fault_status faults.Absent name e a, z))
   failed_by (file_too_large name limit next long rose e u) a z = absurd (omega (arith, fault_status faults.TooLarge name e a, z))
@@ -201,7 +205,7 @@ module _ (names : Names) (plan : Plan) (old new : Outside) (untouched trusted : 
   failed_by (no_memory e) a z = absurd (omega (arith, fault_status faults.Memory [] e a, z))
   failed_by (file_ran file plain text moved h0 h1 h2 h3 h4 o) a z = absurd (neither 71 (ran_status o.report o.travel o.is_plan a) z (λ h. omega (arith, h)) (λ h. omega (arith, h)))
 
-  absent_by : Came → Planned → s ≡ 73 → (name : List ℕ) × (limit : ℕ) × NextRead names old.known name limit × IsAbsent old.known name × Rose old.counts.misses new.counts.misses × Says faults.Absent name old new × untouched
+  absent_by : Came → Planned → s ≡ 73 → (name : List ℕ) × (limit : ℕ) × NextRead names old.known name limit × IsAbsent old.known name × Rose old.counts.misses new.counts.misses × Says faults.Absent name old new × tells.untouched
   absent_by (files_failed name limit next rose e u) a z = absurd (omega (arith, fault_status faults.ReadFault name e a, z))
   absent_by (file_absent name limit next gone rose e u) a z = (name, limit, next, gone, rose, fault_says faults.Absent name e a, u)
   absent_by (file_too_large name limit next long rose e u) a z = absurd (omega (arith, fault_status faults.TooLarge name e a, z))
@@ -209,7 +213,7 @@ module _ (names : Names) (plan : Plan) (old new : Outside) (untouched trusted : 
   absent_by (no_memory e) a z = absurd (omega (arith, fault_status faults.Memory [] e a, z))
   absent_by (file_ran file plain text moved h0 h1 h2 h3 h4 o) a z = absurd (neither 73 (ran_status o.report o.travel o.is_plan a) z (λ h. omega (arith, h)) (λ h. omega (arith, h)))
 
-  too_large_by : Came → Planned → s ≡ 74 → (name : List ℕ) × (limit : ℕ) × NextRead names old.known name limit × IsLonger old.known name limit × Rose old.counts.misses new.counts.misses × Says faults.TooLarge name old new × untouched
+  too_large_by : Came → Planned → s ≡ 74 → (name : List ℕ) × (limit : ℕ) × NextRead names old.known name limit × IsLonger old.known name limit × Rose old.counts.misses new.counts.misses × Says faults.TooLarge name old new × tells.untouched
   too_large_by (files_failed name limit next rose e u) a z = absurd (omega (arith, fault_status faults.ReadFault name e a, z))
   too_large_by (file_absent name limit next gone rose e u) a z = absurd (omega (arith, fault_status faults.Absent name e a, z))
   too_large_by (file_too_large name limit next long rose e u) a z = (name, limit, next, long, rose, fault_says faults.TooLarge name e a, u)
@@ -222,8 +226,8 @@ module _ (names : Names) (plan : Plan) (old new : Outside) (untouched trusted : 
   planned_ran c (inr z) = planned_at 2 c z (λ e. omega (arith, e)) (λ e. omega (arith, e))
 
   -- the status that is due by the files, of a plan that came of them
-  due_by : PlainOnce → OffloadPlan names old.known new.counts old.link old.calls new.link new.calls untouched trusted old.counts plan → Carried → IfSome old.known.files (λ files. DueByFiles names files s)
-  due_by once h (inl a) = told_due old.known.files names plan s old.counts new.counts old.link old.calls new.link new.calls untouched trusted a.status (λ report travel o. ran_status report travel o a) once h
+  due_by : PlainOnce → OffloadPlan names old.known new.counts old.link old.calls new.link new.calls tells old.counts plan → Carried → IfSome old.known.files (λ files. DueByFiles names files s)
+  due_by once h (inl a) = told_due old.known.files names plan s old.counts new.counts old.link old.calls new.link new.calls tells a.status (λ report travel o. ran_status report travel o a) once h
   due_by once h (inr (inl u)) = told_early s old.known.files names (inl u.status)
   due_by once h (inr (inr (inl o))) = told_early s old.known.files names (inr (inr o.status))
   due_by once h (inr (inr (inr o))) = told_early s old.known.files names (inr (inr o.status))
@@ -234,7 +238,7 @@ module _ (names : Names) (plan : Plan) (old new : Outside) (untouched trusted : 
   due_memory e (inr (inr (inl o))) = told_early s old.known.files names (inr (inr o.status))
   due_memory e (inr (inr (inr o))) = told_early s old.known.files names (inr (inr o.status))
 
-  offloads_files : IfSome old.known.files (λ files. DueByFiles names files s) → Came → Carried → OffloadsFiles names old s new untouched trusted
+  offloads_files : IfSome old.known.files (λ files. DueByFiles names files s) → Came → Carried → OffloadsFiles names old s new tells
   offloads_files due o c = record {
     due = due;
     ran = λ z. ran_by o (planned_ran c z) z;
@@ -245,17 +249,17 @@ module _ (names : Names) (plan : Plan) (old new : Outside) (untouched trusted : 
     too_large = λ z. too_large_by o (planned_at 74 c z (λ e. omega (arith, e)) (λ e. omega (arith, e))) z;
   }
 
-  pub planned_files : PlainOnce → OffloadPlan names old.known new.counts old.link old.calls new.link new.calls untouched trusted old.counts plan → Carried → OffloadsFiles names old s new untouched trusted
-  planned_files once h c = offloads_files (due_by once h c) (outcome names plan old new untouched trusted h) c
+  pub planned_files : PlainOnce → OffloadPlan names old.known new.counts old.link old.calls new.link new.calls tells old.counts plan → Carried → OffloadsFiles names old s new tells
+  planned_files once h c = offloads_files (due_by once h c) (outcome names plan old new tells h) c
 
-  pub memory_files : plan ≡ fault_plan faults.Memory [] → Carried → OffloadsFiles names old s new untouched trusted
+  pub memory_files : plan ≡ fault_plan faults.Memory [] → Carried → OffloadsFiles names old s new tells
   memory_files e c = offloads_files (due_memory e c) (no_memory e) c
 
 -- ---- over a link that is trusted
 
-module _ (names : Names) (old new : Outside) (s : ℕ) (untouched trusted : Type 0) where
+module _ (names : Names) (old new : Outside) (s : ℕ) (tells : LinkTells) where
   abbrev There : Type 0
-  There = RanThere names old s new untouched trusted
+  There = RanThere names old s new tells
 
   returned_words : (r : There) → Returns r.file r.report → r.ended ≡ returned_line
   returned_words r t = some_same (sym r.is_ended ∙ ap ended_line t.returned)
@@ -263,15 +267,28 @@ module _ (names : Names) (old new : Outside) (s : ℕ) (untouched trusted : Type
   returned_status : (r : There) → Returns r.file r.report → s ≡ 0
   returned_status r t = r.status ∙ ap ended_status t.returned
 
-  pub is_transparent : OffloadsFiles names old s new untouched trusted → trusted → Transparent names old s new
+  pub is_transparent : OffloadsFiles names old s new tells → tells.trusted → Transparent names old s new tells.prompt
   is_transparent o h = record {
     done = λ z. done (o.ran (inl z));
     never_stops = λ z. stops (o.ran (inr z)) z;
   }
     where
+      migrates_all : (r : There) → tells.prompt → MigratesAll names old.known r.file r.travel
+      migrates_all r p = record {
+        plain = r.plain;
+        text = r.text;
+        moved = r.moved;
+        is_plain = r.is_plain;
+        is_text = r.is_text;
+        is_partition = r.is_partition;
+        all = r.migrates (r.prompt h p) (r.transparent h).returned;
+        none = r.prompt h p;
+      }
+
       done : There → (file : List ℕ) × (report : Report) × (travel : Travel) × IsFile old.known names.file file × Returns file report
           × Wrote report.out old.out new.out × Wrote (returned_line ++ travel_line travel) old.notes new.notes × FallsOnlySo travel.fallback old.calls new.calls
-      done r = (r.file, r.report, r.travel, r.is_file, r.transparent h, r.out, subst (λ (l : List ℕ). Wrote (l ++ travel_line r.travel) old.notes new.notes) (returned_words r (r.transparent h)) r.notes, r.complete h)
+          × (tells.prompt → MigratesAll names old.known file travel)
+      done r = (r.file, r.report, r.travel, r.is_file, r.transparent h, r.out, subst (λ (l : List ℕ). Wrote (l ++ travel_line r.travel) old.notes new.notes) (returned_words r (r.transparent h)) r.notes, r.complete h, (λ p. migrates_all r p))
 
       stops : There → s ≡ 2 → ⊥
       stops r z = omega (arith, returned_status r (r.transparent h), z)

@@ -6,6 +6,7 @@ use Rattle.std.specs.declared.alloc.AllocError.{AllocError}
 use Rattle.std.proofs.lemmas.Option.{slice_get_within}
 use Rattle.cc_meaning.specs.declared.file.Job.{Job}
 use Rattle.cc_meaning.specs.declared.report.Report.{Report}
+use Rattle.cc_meaning.specs.declared.report.Ending.TheVariants as ending
 use Rattle.cc_meaning.specs.declared.travel.Travel.{Travel}
 use Rattle.cc_link.specs.Links as link
 use Rattle.cc_plan.specs.declared.plan.Plan.{Plan}
@@ -16,10 +17,11 @@ use Rattle.cc_meaning_plain.specs.Plain.{IsPlain}
 use Rattle.cc_meaning_plain.specs.Laws.{AreBytes, PlainReturns, default_limits}
 use Rattle.cc_meaning_clone.specs.Hello.{with_length, no_script, IsHelloOf}
 use Rattle.cc_meaning_ends.specs.Ends.{PlainEnds}
+use Rattle.cc_meaning_device.specs.Complete.{moved_calls}
 use Rattle.cc_partition.specs.Partition.{IsPartition, moves_none, moves_one}
-use Rattle.cc_device.specs.Travelling.{hello_payload, moves_of, Offloads, IsLocal, FallsOnlySo}
+use Rattle.cc_device.specs.Travelling.{hello_payload, moves_of, Offloads, IsLocal, FallsOnlySo, LastEnds}
 use Rattle.cc_cli.specs.Plans.{Returns}
-use Rattle.cc_cli.specs.Offloading.{job_of, OffloadedPlan, Offloaded}
+use Rattle.cc_cli.specs.Offloading.{LinkTells, job_of, OffloadedPlan, Offloaded}
 
 some_same : {A : Type 0} {a b : A} → Some a ≡ Some b → a ≡ b
 some_same e = cc
@@ -60,8 +62,8 @@ module _ (file : List ℕ) (plain : Plain) (is_plain : IsPlain file plain) (plac
 
 -- a run that was offloaded returned, or stopped for want of instructions or words
 pub ends_in_words : PlainEnds → (plain : Plain) (moved : Option ℕ) (job : Job) → AreBytes job.file → IsPlain job.file plain → (report : Report) (travel : Travel)
-    (k : link.Known) (old : link.Counts) (k' : link.Known) (new : link.Counts) (untouched : Type 0) → Offloads plain moved job report travel k old k' new untouched → IsSome (ended_line report.ending)
-ends_in_words ends plain moved job bytes is report travel k old k' new untouched o =
+    (k : link.Known) (old : link.Counts) (prompt : Type 0) (k' : link.Known) (new : link.Counts) (untouched : Type 0) → Offloads plain moved job report travel k old prompt k' new untouched → IsSome (ended_line report.ending)
+ends_in_words ends plain moved job bytes is report travel k old prompt k' new untouched o =
     (ends job.file plain (moves_of plain moved) job.limits (frames_of o.got).frames report bytes is o.reports).ended
 
 -- its report is that of the run on one heap, which returned
@@ -79,16 +81,20 @@ moves_within plain text moved (moves_none e) i h = absurd (none_some i h)
     none_some i h = cc
 moves_within plain text moved (moves_one j function name at spells e) i h = subst (λ (n : ℕ). n < length plain.functions) (some_same h) (slice_get_within plain.functions j function at)
 
-pub ran_there : (place : List ℕ) (k : link.Known) (old : link.Counts) (k' : link.Known) (new : link.Counts) (untouched trusted : Type 0) (file : List ℕ) (plain : Plain) (moved : Option ℕ)
-    (report : Report) (travel : Travel) (job : Job) (made : Result Plan AllocError) → job ≡ job_of file place → Offloads plain moved job report travel k old k' new untouched
-    → (trusted → Returns file report) → (trusted → FallsOnlySo travel.fallback old new) → IfOk made (λ plan. OffloadedPlan report travel plan)
-    → IfOk made (λ plan. Offloaded place k old k' new untouched trusted file plain moved plan)
-ran_there place k old k' new untouched trusted file plain moved report travel job (Ok plan) is o t falls p = record {
+pub ran_there : (place : List ℕ) (k : link.Known) (old : link.Counts) (k' : link.Known) (new : link.Counts) (tells : LinkTells) (file : List ℕ) (plain : Plain) (moved : Option ℕ)
+    (report : Report) (travel : Travel) (job : Job) (made : Result Plan AllocError) → job ≡ job_of file place → Offloads plain moved job report travel k old tells.prompt k' new tells.untouched
+    → (tells.trusted → Returns file report) → (tells.trusted → FallsOnlySo travel.fallback old new) → (tells.trusted → tells.prompt → travel.fallback ≡ None) → (travel.fallback ≡ None → report.ending ≡ ending.Returned → travel.migrations ≡ moved_calls plain (moves_of plain moved) plain.main.insns) → (tells.going_before → LastEnds tells.going tells.last travel.fallback) → (moved ≡ None → tells.untouched) → IfOk made (λ plan. OffloadedPlan report travel plan)
+    → IfOk made (λ plan. Offloaded place k old k' new tells file plain moved plan)
+ran_there place k old k' new tells file plain moved report travel job (Ok plan) is o t falls never each last unmoved p = record {
   report = report;
   travel = travel;
-  offloads = subst (λ (j : Job). Offloads plain moved j report travel k old k' new untouched) is o;
+  offloads = subst (λ (j : Job). Offloads plain moved j report travel k old tells.prompt k' new tells.untouched) is o;
   is_plan = p;
   transparent = t;
   complete = falls;
+  prompt = never;
+  migrates = each;
+  last = last;
+  unmoved = unmoved;
 }
-ran_there place k old k' new untouched trusted file plain moved report travel job (Err end) is o t falls p = tt
+ran_there place k old k' new tells file plain moved report travel job (Err end) is o t falls never each last unmoved p = tt

@@ -20,7 +20,7 @@ use Rattle.cc_cli.specs.declared.fault.Fault.{Fault}
 use Rattle.cc_cli.specs.declared.fault.Fault.TheVariants as faults
 use Rattle.cc_cli.specs.Faults.{status_of, fault_plan}
 use Rattle.cc_cli.specs.Plans.{file_named, IsNotPlain, Returns, ran_plan, RunPlan, failed, absent, too_large, was_read}
-use Rattle.cc_cli.specs.Offloading.{Names, offload_named, OffloadedPlan}
+use Rattle.cc_cli.specs.Offloading.{LinkTells, Names, offload_named, OffloadedPlan}
 use Rattle.cc_cli.specs.Runs.{Outside, sources, CallPlan, WordsPlan, Runs}
 use Rattle.cc_cli.specs.Statuses.{DueBy, Says, RunsFile, OffloadsFiles, Statuses, Transparent}
 use Rattle.cc_cli.proofs.Outcomes.{is_transparent, Outcome, files_failed, file_absent, file_too_large, files_refused, file_ran, no_memory, outcome, ended_so, planned_files, memory_files}
@@ -334,11 +334,11 @@ module _ (plan : Plan) (old new : Outside) (s : ℕ) where
       not_now : (k : ℕ) → s ≡ k → Carried → k ≢ 70 → k ≢ 72 → ⊥
       not_now k z c n m = n (sym z ∙ fault_status faults.Memory [] e (planned_at k c z n m))
 
-  module _ (untouched trusted : Type 0) where
+  module _ (tells : LinkTells) where
     abbrev Call : Option (List ℕ) → Option Names → Type 0
-    Call name names = CallPlan name names (sources old) (sources new) untouched trusted plan
+    Call name names = CallPlan name names (sources old) (sources new) tells plan
 
-    outcome_kind : (names : Names) → Outcome names plan old new untouched trusted → IsKind
+    outcome_kind : (names : Names) → Outcome names plan old new tells → IsKind
     outcome_kind names (files_failed name limit next rose e u) = inl (faults.ReadFault, name, e)
     outcome_kind names (file_absent name limit next gone rose e u) = inl (faults.Absent, name, e)
     outcome_kind names (file_too_large name limit next long rose e u) = inl (faults.TooLarge, name, e)
@@ -348,14 +348,14 @@ module _ (plan : Plan) (old new : Outside) (s : ℕ) where
 
     call_kind : (name : Option (List ℕ)) (names : Option Names) → Call name names → IsKind
     call_kind (Some name) names h = run_kind name h.0
-    call_kind None (Some names) h = outcome_kind names (outcome names plan old new untouched trusted h)
+    call_kind None (Some names) h = outcome_kind names (outcome names plan old new tells h)
     call_kind None None h = inl (faults.Usage, [], h.0)
 
-    words_kind : (words : List (List ℕ)) → WordsPlan words (sources old) (sources new) untouched trusted plan → IsKind
+    words_kind : (words : List (List ℕ)) → WordsPlan words (sources old) (sources new) tells plan → IsKind
     words_kind words (inl h) = call_kind (file_named words) (offload_named words) h
     words_kind words (inr e) = inl (faults.Memory, [], e)
 
-    no_outcome_is_usage : (names : Names) → Outcome names plan old new untouched trusted → Planned → s ≡ 64 → ⊥
+    no_outcome_is_usage : (names : Names) → Outcome names plan old new tells → Planned → s ≡ 64 → ⊥
     no_outcome_is_usage names (files_failed name limit next rose e u) a z = omega (arith, fault_status faults.ReadFault name e a, z)
     no_outcome_is_usage names (file_absent name limit next gone rose e u) a z = omega (arith, fault_status faults.Absent name e a, z)
     no_outcome_is_usage names (file_too_large name limit next long rose e u) a z = omega (arith, fault_status faults.TooLarge name e a, z)
@@ -364,13 +364,13 @@ module _ (plan : Plan) (old new : Outside) (s : ℕ) where
     no_outcome_is_usage names (no_memory e) a z = omega (arith, fault_status faults.Memory [] e a, z)
 
     usage_call : (name : Option (List ℕ)) (names : Option Names) → Call name names → Planned → s ≡ 64
-        → (name ≡ None) × (names ≡ None) × (new.counts ≡ old.counts) × untouched × Says faults.Usage [] old new
+        → (name ≡ None) × (names ≡ None) × (new.counts ≡ old.counts) × tells.untouched × Says faults.Usage [] old new
     usage_call (Some name) names h a z = absurd (no_run_is_usage name h.0 a z)
-    usage_call None (Some names) h a z = absurd (no_outcome_is_usage names (outcome names plan old new untouched trusted h) a z)
+    usage_call None (Some names) h a z = absurd (no_outcome_is_usage names (outcome names plan old new tells h) a z)
     usage_call None None h a z = (refl, refl, h.1, h.2, fault_says faults.Usage [] h.0 a)
 
-    usage_by : (words : List (List ℕ)) → WordsPlan words (sources old) (sources new) untouched trusted plan → Planned → s ≡ 64
-        → (file_named words ≡ None) × (offload_named words ≡ None) × (new.counts ≡ old.counts) × untouched × Says faults.Usage [] old new
+    usage_by : (words : List (List ℕ)) → WordsPlan words (sources old) (sources new) tells plan → Planned → s ≡ 64
+        → (file_named words ≡ None) × (offload_named words ≡ None) × (new.counts ≡ old.counts) × tells.untouched × Says faults.Usage [] old new
     usage_by words (inl h) a z = usage_call (file_named words) (offload_named words) h a z
     usage_by words (inr e) a z = absurd (omega (arith, fault_status faults.Memory [] e a, z))
 
@@ -385,7 +385,7 @@ module _ (plan : Plan) (old new : Outside) (s : ℕ) where
         some_none names e = cc
     no_call None None e f h = h.0
 
-    no_command_by : (words : List (List ℕ)) → WordsPlan words (sources old) (sources new) untouched trusted plan → Carried → file_named words ≡ None → offload_named words ≡ None → (s ≡ 64) ⊎ ((s ≡ 70) ⊎ (s ≡ 72))
+    no_command_by : (words : List (List ℕ)) → WordsPlan words (sources old) (sources new) tells plan → Carried → file_named words ≡ None → offload_named words ≡ None → (s ≡ 64) ⊎ ((s ≡ 70) ⊎ (s ≡ 72))
     no_command_by words (inl h) (inl a) n m = inl (fault_status faults.Usage [] (no_call (file_named words) (offload_named words) n m h) a)
     no_command_by words (inr e) (inl a) n m = inr (inl (fault_status faults.Memory [] e a))
     no_command_by words k (inr (inl u)) n m = inr (inl u.status)
@@ -399,11 +399,11 @@ module _ (plan : Plan) (old new : Outside) (s : ℕ) where
         none_some name e = cc
     call_runs (Some other) names name e h c = runs_file name (subst (λ (n : List ℕ). RunPlan old.known old.counts n new.counts plan) (some_same e) h.0) c
 
-    words_run : (words : List (List ℕ)) (name : List ℕ) → file_named words ≡ Some name → WordsPlan words (sources old) (sources new) untouched trusted plan → Carried → RunsFile name old s new
+    words_run : (words : List (List ℕ)) (name : List ℕ) → file_named words ≡ Some name → WordsPlan words (sources old) (sources new) tells plan → Carried → RunsFile name old s new
     words_run words name e (inl h) c = call_runs (file_named words) (offload_named words) name e h c
     words_run words name e (inr m) c = memory_runs name m c
 
-    call_offloads : PlainOnce → (call : Option (List ℕ)) (found : Option Names) (names : Names) → call ≡ None → found ≡ Some names → Call call found → Carried → OffloadsFiles names old s new untouched trusted
+    call_offloads : PlainOnce → (call : Option (List ℕ)) (found : Option Names) (names : Names) → call ≡ None → found ≡ Some names → Call call found → Carried → OffloadsFiles names old s new tells
     call_offloads once (Some name) found names e f h c = absurd (some_none name e)
       where
         some_none : (name : List ℕ) → Some name ≡ None → ⊥
@@ -413,22 +413,22 @@ module _ (plan : Plan) (old new : Outside) (s : ℕ) where
         none_some : (names : Names) → None ≡ Some names → ⊥
         none_some names f = cc
     call_offloads once None (Some other) names e f h c =
-        subst (λ (n : Names). OffloadsFiles n old s new untouched trusted) (some_same f) (planned_files other plan old new untouched trusted s once h c)
+        subst (λ (n : Names). OffloadsFiles n old s new tells) (some_same f) (planned_files other plan old new tells s once h c)
 
-    words_offload : PlainOnce → (words : List (List ℕ)) (names : Names) → offload_named words ≡ Some names → WordsPlan words (sources old) (sources new) untouched trusted plan → Carried → OffloadsFiles names old s new untouched trusted
+    words_offload : PlainOnce → (words : List (List ℕ)) (names : Names) → offload_named words ≡ Some names → WordsPlan words (sources old) (sources new) tells plan → Carried → OffloadsFiles names old s new tells
     words_offload once words names e (inl h) c = call_offloads once (file_named words) (offload_named words) names (no_run_named words names e) e h c
-    words_offload once words names e (inr m) c = memory_files names plan old new untouched trusted s m c
+    words_offload once words names e (inr m) c = memory_files names plan old new tells s m c
 
     stopped_call : (name : Option (List ℕ)) (found : Option Names) → Call name found → Planned → s ≡ 2 → (names : Names) × (found ≡ Some names)
     stopped_call (Some name) found h a z = absurd (no_run_stops name h.0 a z)
     stopped_call None (Some names) h a z = (names, refl)
     stopped_call None None h a z = absurd (omega (arith, fault_status faults.Usage [] h.0 a, z))
 
-    stopped_by : (words : List (List ℕ)) → WordsPlan words (sources old) (sources new) untouched trusted plan → Planned → s ≡ 2 → (names : Names) × (offload_named words ≡ Some names)
+    stopped_by : (words : List (List ℕ)) → WordsPlan words (sources old) (sources new) tells plan → Planned → s ≡ 2 → (names : Names) × (offload_named words ≡ Some names)
     stopped_by words (inl h) a z = stopped_call (file_named words) (offload_named words) h a z
     stopped_by words (inr e) a z = absurd (omega (arith, fault_status faults.Memory [] e a, z))
 
-    all_statuses : PlainOnce → (words : List (List ℕ)) → WordsPlan words (sources old) (sources new) untouched trusted plan → Carried → Statuses words old s new untouched trusted
+    all_statuses : PlainOnce → (words : List (List ℕ)) → WordsPlan words (sources old) (sources new) tells plan → Carried → Statuses words old s new tells
     all_statuses once words w c = record {
       usage = λ z. usage_by words w (planned_at 64 c z (λ e. omega (arith, e)) (λ e. omega (arith, e))) z;
       no_command = no_command_by words w c;
@@ -441,12 +441,12 @@ module _ (plan : Plan) (old new : Outside) (s : ℕ) where
       others = others_by (words_kind words w) c;
     }
 
-pub statuses : PlainOnce → (words : List (List ℕ)) (old new : Outside) (s : ℕ) (untouched trusted : Type 0) → Runs words old s new untouched trusted → Statuses words old s new untouched trusted
-statuses once words old new s untouched trusted runs = all_statuses runs.0 old new s untouched trusted once words runs.1 runs.2
+pub statuses : PlainOnce → (words : List (List ℕ)) (old new : Outside) (s : ℕ) (tells : LinkTells) → Runs words old s new tells → Statuses words old s new tells
+statuses once words old new s tells runs = all_statuses runs.0 old new s tells once words runs.1 runs.2
 
 -- there is no memory even for a plan, and nothing is done
-pub no_plan : (words : List (List ℕ)) (old new : Outside) (untouched trusted : Type 0) → new.out ≡ old.out → new.notes ≡ old.notes → Runs words old 70 new untouched trusted
-no_plan words old new untouched trusted o n = (fault_plan faults.Memory [], inr refl, inr (inl (record { status = refl; out = ap (λ (p : Pipe). p.text) o; notes = ap (λ (p : Pipe). p.text) n })))
+pub no_plan : (words : List (List ℕ)) (old new : Outside) (tells : LinkTells) → new.out ≡ old.out → new.notes ≡ old.notes → Runs words old 70 new tells
+no_plan words old new tells o n = (fault_plan faults.Memory [], inr refl, inr (inl (record { status = refl; out = ap (λ (p : Pipe). p.text) o; notes = ap (λ (p : Pipe). p.text) n })))
 
-pub transparent : PlainOnce → (words : List (List ℕ)) (old new : Outside) (s : ℕ) (untouched trusted : Type 0) → Runs words old s new untouched trusted → (names : Names) → offload_named words ≡ Some names → trusted → Transparent names old s new
-transparent once words old new s untouched trusted runs names e h = is_transparent names old new s untouched trusted ((statuses once words old new s untouched trusted runs).offload names e) h
+pub transparent : PlainOnce → (words : List (List ℕ)) (old new : Outside) (s : ℕ) (tells : LinkTells) → Runs words old s new tells → (names : Names) → offload_named words ≡ Some names → tells.trusted → Transparent names old s new tells.prompt
+transparent once words old new s tells runs names e h = is_transparent names old new s tells ((statuses once words old new s tells runs).offload names e) h

@@ -3,12 +3,15 @@ use Rattle.std.specs.Prelude.{◌≡◌, ◌≢◌, ◌⊎◌, ℕ, ◌≤◌, L
 use Rattle.std.specs.Str.{bytes_eq}
 use Rattle.cc_meaning.specs.declared.file.Job.{Job}
 use Rattle.cc_meaning.specs.declared.report.Report.{Report}
+use Rattle.cc_meaning.specs.declared.report.Ending.TheVariants as ending
 use Rattle.cc_meaning.specs.declared.travel.Travel.{Travel}
 use Rattle.cc_outside.specs.Counting.{Rose}
 use Rattle.cc_outside.specs.Shelves as shelf
 use Rattle.cc_outside.specs.declared.shelf.ReadEnd.{ReadEnd}
 use Rattle.cc_outside.specs.declared.shelf.ReadEnd.TheVariants as reads
 use Rattle.cc_link.specs.Links as link
+use Rattle.cc_link.specs.Links.{Answer}
+use Rattle.cc_link.specs.Honest.{told}
 use Rattle.cc_plan.specs.declared.plan.Plan.{Plan}
 use Rattle.cc_meaning_lines.specs.Travel.{ended_line, ended_status, travel_line}
 use Rattle.cc_meaning_plain.specs.declared.plain.Plain.{Plain}
@@ -16,11 +19,36 @@ use Rattle.cc_meaning_plain.specs.Tables.{longest_file}
 use Rattle.cc_meaning_plain.specs.Plain.{IsPlain}
 use Rattle.cc_meaning_plain.specs.Laws.{default_limits}
 use Rattle.cc_meaning_clone.specs.Hello.{no_script}
+use Rattle.cc_meaning_device.specs.Complete.{moved_calls}
 use Rattle.cc_partition.specs.Partition.{IsPartition}
-use Rattle.cc_device.specs.Travelling.{Offloads, FallsOnlySo}
+use Rattle.cc_device.specs.Travelling.{moves_of, Offloads, FallsOnlySo, LastEnds}
 use Rattle.cc_cli.specs.declared.fault.Fault.TheVariants as faults
 use Rattle.cc_cli.specs.Faults.{fault_plan}
 use Rattle.cc_cli.specs.Plans.{IsNotPlain, Returns}
+
+-- ---- the link
+
+-- What the link that is called tells: that it is as it was; that nothing was sent or got on it yet, and it gives a front of a clone's answers; that it delays, cuts
+-- and fails nothing besides; that each call on it before went on; and, where
+-- it did, how that is now and what the last call answered.
+pub record LinkTells : Type 1 where
+  pub untouched : Type 0
+  pub trusted : Type 0
+  pub prompt : Type 0
+  pub going_before : Type 0
+  pub going : Type 0
+  pub last : Answer → Type 0
+
+-- of a link that was this and is that
+abbrev pub tells_of : {L : Type 0} → (known : L → link.Known) → (honest prompt going : L → Type 0) → (last : L → Answer → Type 0) → (old new : L) → LinkTells
+tells_of known honest prompt going last old new = record {
+  untouched = new ≡ old;
+  trusted = honest old × (known old ≡ told [] []);
+  prompt = prompt old;
+  going_before = going old;
+  going = going new;
+  last = last new;
+}
 
 -- ---- the words
 
@@ -86,36 +114,41 @@ abbrev pub MovesNoneOf : Plain → List ℕ → Type 0
 MovesNoneOf plain text = (moved : Option ℕ) → IsPartition plain text moved → ⊥
 
 -- The run over what was sent and got on the link. Where the link is trusted, its report is that of the run on one heap, and the device falls back only where a
--- count of the link rose.
-pub record Offloaded (place : List ℕ) (k : link.Known) (before : link.Counts) (k' : link.Known) (after : link.Counts) (untouched trusted : Type 0) (file : List ℕ) (plain : Plain) (moved : Option ℕ) (plan : Plan) : Type 0 where
+-- count of the link rose; where it was prompt besides, it never does.
+pub record Offloaded (place : List ℕ) (k : link.Known) (before : link.Counts) (k' : link.Known) (after : link.Counts) (tells : LinkTells) (file : List ℕ) (plain : Plain) (moved : Option ℕ) (plan : Plan) : Type 0 where
   pub report : Report
   pub travel : Travel
-  pub offloads : Offloads plain moved (job_of file place) report travel k before k' after untouched
+  pub offloads : Offloads plain moved (job_of file place) report travel k before tells.prompt k' after tells.untouched
   pub is_plan : OffloadedPlan report travel plan
-  pub transparent : trusted → Returns file report
-  pub complete : trusted → FallsOnlySo travel.fallback before after
+  pub transparent : tells.trusted → Returns file report
+  pub complete : tells.trusted → FallsOnlySo travel.fallback before after
+  pub prompt : tells.trusted → tells.prompt → travel.fallback ≡ None
+  pub migrates : travel.fallback ≡ None → report.ending ≡ ending.Returned → travel.migrations ≡ moved_calls plain (moves_of plain moved) plain.main.insns
+  -- nothing is called on the link after the first call that fails or gives the end, nor where no function is moved
+  pub last : tells.going_before → LastEnds tells.going tells.last travel.fallback
+  pub unmoved : moved ≡ None → tells.untouched
 
 -- by the text of the partition: it says nothing of the file, and the link is untouched; or the file runs
-abbrev pub TextPlan : (place : List ℕ) → link.Known → link.Counts → link.Known → link.Counts → (untouched trusted : Type 0) → (file : List ℕ) → Plain → (text : List ℕ) → Plan → Type 0
-TextPlan place k before k' after untouched trusted file plain text plan =
-    (MovesNoneOf plain text × (plan ≡ fault_plan faults.NotBuilt []) × untouched)
-    ⊎ ((moved : Option ℕ) × IsPartition plain text moved × Offloaded place k before k' after untouched trusted file plain moved plan)
+abbrev pub TextPlan : (place : List ℕ) → link.Known → link.Counts → link.Known → link.Counts → LinkTells → (file : List ℕ) → Plain → (text : List ℕ) → Plan → Type 0
+TextPlan place k before k' after tells file plain text plan =
+    (MovesNoneOf plain text × (plan ≡ fault_plan faults.NotBuilt []) × tells.untouched)
+    ⊎ ((moved : Option ℕ) × IsPartition plain text moved × Offloaded place k before k' after tells file plain moved plan)
 
-module _ (names : Names) (known : shelf.Known) (new : shelf.Counts) (k : link.Known) (before : link.Counts) (k' : link.Known) (after : link.Counts) (untouched trusted : Type 0) where
+module _ (names : Names) (known : shelf.Known) (new : shelf.Counts) (k : link.Known) (before : link.Counts) (k' : link.Known) (after : link.Counts) (tells : LinkTells) where
   -- by the partition
   abbrev pub PartitionPlan : (file : List ℕ) → Plain → Plan → (text : List ℕ) → (middle : shelf.Counts) → Type 0
-  PartitionPlan file plain plan text middle = (new ≡ middle) × TextPlan names.place k before k' after untouched trusted file plain text plan
+  PartitionPlan file plain plan text middle = (new ≡ middle) × TextPlan names.place k before k' after tells file plain text plan
 
   -- by the script
   abbrev pub ScriptPlan : (file : List ℕ) → Plain → Plan → (script : List ℕ) → (middle : shelf.Counts) → Type 0
   ScriptPlan file plain plan script middle =
-      ((script ≢ no_script) × Refused middle new untouched plan) ⊎ ((script ≡ no_script) × ReadPlan known middle names.partition longest_text new untouched plan (PartitionPlan file plain plan))
+      ((script ≢ no_script) × Refused middle new tells.untouched plan) ⊎ ((script ≡ no_script) × ReadPlan known middle names.partition longest_text new tells.untouched plan (PartitionPlan file plain plan))
 
   -- by the file
   abbrev pub FilePlan : Plan → (file : List ℕ) → (middle : shelf.Counts) → Type 0
   FilePlan plan file middle =
-      (IsNotPlain file × Refused middle new untouched plan) ⊎ ((plain : Plain) × IsPlain file plain × ReadPlan known middle names.script longest_text new untouched plan (ScriptPlan file plain plan))
+      (IsNotPlain file × Refused middle new tells.untouched plan) ⊎ ((plain : Plain) × IsPlain file plain × ReadPlan known middle names.script longest_text new tells.untouched plan (ScriptPlan file plain plan))
 
   -- each file is read and judged before the next is read
   abbrev pub OffloadPlan : (old : shelf.Counts) → Plan → Type 0
-  OffloadPlan old plan = ReadPlan known old names.file longest_file new untouched plan (FilePlan plan)
+  OffloadPlan old plan = ReadPlan known old names.file longest_file new tells.untouched plan (FilePlan plan)

@@ -1,6 +1,7 @@
 -- What each status of a run of the program says.
 use Rattle.std.specs.Prelude.{◌≡◌, ◌≢◌, ◌⊎◌, ℕ, ◌<◌, ◌≤◌, List, [], ◌++◌, length, Option, Some, None, IfSome}
 use Rattle.cc_meaning.specs.declared.report.Report.{Report}
+use Rattle.cc_meaning.specs.declared.report.Ending.TheVariants as ending
 use Rattle.cc_outside.specs.Counting.{Rose}
 use Rattle.cc_outside.specs.Shelves.{Files, Known, Tells, IsFile, IsAbsent, IsLonger}
 use Rattle.cc_plan.specs.Carrying.{Wrote}
@@ -8,8 +9,9 @@ use Rattle.cc_meaning.specs.declared.travel.Travel.{Travel}
 use Rattle.cc_meaning_lines.specs.Lines.{returned_line}
 use Rattle.cc_meaning_lines.specs.Travel.{ended_line, ended_status, travel_line}
 use Rattle.cc_meaning_clone.specs.Hello.{no_script}
+use Rattle.cc_meaning_device.specs.Complete.{moved_calls}
 use Rattle.cc_partition.specs.Partition.{IsPartition}
-use Rattle.cc_device.specs.Travelling.{Offloads, FallsOnlySo}
+use Rattle.cc_device.specs.Travelling.{moves_of, Offloads, FallsOnlySo, LastEnds}
 use Rattle.cc_meaning_plain.specs.declared.plain.Plain.{Plain}
 use Rattle.cc_meaning_plain.specs.Tables.{longest_file}
 use Rattle.cc_meaning_plain.specs.Plain.{IsPlain}
@@ -17,7 +19,7 @@ use Rattle.cc_cli.specs.declared.fault.Fault.{Fault}
 use Rattle.cc_cli.specs.declared.fault.Fault.TheVariants as faults
 use Rattle.cc_cli.specs.Faults.{status_of, line_of}
 use Rattle.cc_cli.specs.Plans.{file_named, IsNotPlain, Returns}
-use Rattle.cc_cli.specs.Offloading.{Names, offload_named, longest_text, job_of, MovesNoneOf}
+use Rattle.cc_cli.specs.Offloading.{LinkTells, Names, offload_named, longest_text, job_of, MovesNoneOf}
 use Rattle.cc_cli.specs.Runs.{Outside}
 
 -- the status is the one that is due, but where there was no memory, reading failed or a sink failed
@@ -92,7 +94,7 @@ DueByFiles names files s = DueByNext (files names.file) longest_file s (DueByFil
 -- ---- what was written
 
 -- the file ran, and this was written
-pub record RanThere (names : Names) (old : Outside) (s : ℕ) (new : Outside) (untouched trusted : Type 0) : Type 0 where
+pub record RanThere (names : Names) (old : Outside) (s : ℕ) (new : Outside) (tells : LinkTells) : Type 0 where
   pub file : List ℕ
   pub plain : Plain
   pub text : List ℕ
@@ -106,35 +108,40 @@ pub record RanThere (names : Names) (old : Outside) (s : ℕ) (new : Outside) (u
   pub is_text : IsFile old.known names.partition text
   pub is_partition : IsPartition plain text moved
   -- by what was sent and got on the link
-  pub offloads : Offloads plain moved (job_of file names.place) report travel old.link old.calls new.link new.calls untouched
+  pub offloads : Offloads plain moved (job_of file names.place) report travel old.link old.calls tells.prompt new.link new.calls tells.untouched
   pub status : s ≡ ended_status report.ending
   pub is_ended : ended_line report.ending ≡ Some ended
   pub out : Wrote report.out old.out new.out
   pub notes : Wrote (ended ++ travel_line travel) old.notes new.notes
-  pub transparent : trusted → Returns file report
-  pub complete : trusted → FallsOnlySo travel.fallback old.calls new.calls
+  pub transparent : tells.trusted → Returns file report
+  pub complete : tells.trusted → FallsOnlySo travel.fallback old.calls new.calls
+  pub prompt : tells.trusted → tells.prompt → travel.fallback ≡ None
+  pub migrates : travel.fallback ≡ None → report.ending ≡ ending.Returned → travel.migrations ≡ moved_calls plain (moves_of plain moved) plain.main.insns
+  -- nothing is called on the link after the first call that fails or gives the end, nor where no function is moved
+  pub last : tells.going_before → LastEnds tells.going tells.last travel.fallback
+  pub unmoved : moved ≡ None → tells.untouched
 
-pub record OffloadsFiles (names : Names) (old : Outside) (s : ℕ) (new : Outside) (untouched trusted : Type 0) : Type 0 where
+pub record OffloadsFiles (names : Names) (old : Outside) (s : ℕ) (new : Outside) (tells : LinkTells) : Type 0 where
   -- where the files are told, the status is due by them
   pub due : IfSome old.known.files (λ files. DueByFiles names files s)
   -- it ran to its end, or stopped; no plain file throws
-  pub ran : (s ≡ 0) ⊎ (s ≡ 2) → RanThere names old s new untouched trusted
+  pub ran : (s ≡ 0) ⊎ (s ≡ 2) → RanThere names old s new tells
   pub never_throws : s ≢ 1
-  pub refused : s ≡ 80 → IsRefused names old.known × Says faults.NotBuilt [] old new × untouched
-  pub failed : s ≡ 71 → (name : List ℕ) × (limit : ℕ) × NextRead names old.known name limit × Rose old.counts.faults new.counts.faults × Says faults.ReadFault name old new × untouched
+  pub refused : s ≡ 80 → IsRefused names old.known × Says faults.NotBuilt [] old new × tells.untouched
+  pub failed : s ≡ 71 → (name : List ℕ) × (limit : ℕ) × NextRead names old.known name limit × Rose old.counts.faults new.counts.faults × Says faults.ReadFault name old new × tells.untouched
   pub absent : s ≡ 73 → (name : List ℕ) × (limit : ℕ) × NextRead names old.known name limit × IsAbsent old.known name × Rose old.counts.misses new.counts.misses
-      × Says faults.Absent name old new × untouched
+      × Says faults.Absent name old new × tells.untouched
   pub too_large : s ≡ 74 → (name : List ℕ) × (limit : ℕ) × NextRead names old.known name limit × IsLonger old.known name limit × Rose old.counts.misses new.counts.misses
-      × Says faults.TooLarge name old new × untouched
+      × Says faults.TooLarge name old new × tells.untouched
 
 -- ---- all commands
 
-pub record Statuses (words : List (List ℕ)) (old : Outside) (s : ℕ) (new : Outside) (untouched trusted : Type 0) : Type 0 where
+pub record Statuses (words : List (List ℕ)) (old : Outside) (s : ℕ) (new : Outside) (tells : LinkTells) : Type 0 where
   -- the words are no command, and the shelf and the link were left alone
-  pub usage : s ≡ 64 → (file_named words ≡ None) × (offload_named words ≡ None) × (new.counts ≡ old.counts) × untouched × Says faults.Usage [] old new
+  pub usage : s ≡ 64 → (file_named words ≡ None) × (offload_named words ≡ None) × (new.counts ≡ old.counts) × tells.untouched × Says faults.Usage [] old new
   pub no_command : file_named words ≡ None → offload_named words ≡ None → (s ≡ 64) ⊎ ((s ≡ 70) ⊎ (s ≡ 72))
   pub run : (name : List ℕ) → file_named words ≡ Some name → RunsFile name old s new
-  pub offload : (names : Names) → offload_named words ≡ Some names → OffloadsFiles names old s new untouched trusted
+  pub offload : (names : Names) → offload_named words ≡ Some names → OffloadsFiles names old s new tells
   -- no memory: nothing is on out, and on notes nothing or the line that says so
   pub memory : s ≡ 70 → (new.notes.text ≡ old.notes.text) ⊎ Says faults.Memory [] old new
   -- a sink failed
@@ -146,9 +153,22 @@ pub record Statuses (words : List (List ℕ)) (old : Outside) (s : ℕ) (new : O
 
 -- ---- what offloading is for
 
+-- the partition that was read moves a function, or none; each of its calls in `main` migrated, and there was no fallback
+pub record MigratesAll (names : Names) (known : Known) (file : List ℕ) (travel : Travel) : Type 0 where
+  pub plain : Plain
+  pub text : List ℕ
+  pub moved : Option ℕ
+  pub is_plain : IsPlain file plain
+  pub is_text : IsFile known names.partition text
+  pub is_partition : IsPartition plain text moved
+  pub all : travel.migrations ≡ moved_calls plain (moves_of plain moved) plain.main.insns
+  pub none : travel.fallback ≡ None
+
 -- Over a fresh link that tells that it gives a front of a clone's answers, a program that ran wrote what the run on one heap writes, then how it ended, and then
--- one line on the travel; and it returned. The line names a fallback only where, in this very call, a call of the link failed, moved nothing, or gave the end.
-pub record Transparent (names : Names) (old : Outside) (s : ℕ) (new : Outside) : Type 0 where
+-- one line on the travel; and it returned. The line names a fallback only where, in this very call, a call of the link failed, moved nothing, or gave the end; over
+-- a link that is prompt besides it names none, and as many migrations as `main` has calls of the moved function.
+pub record Transparent (names : Names) (old : Outside) (s : ℕ) (new : Outside) (prompt : Type 0) : Type 0 where
   pub done : s ≡ 0 → (file : List ℕ) × (report : Report) × (travel : Travel) × IsFile old.known names.file file × Returns file report
       × Wrote report.out old.out new.out × Wrote (returned_line ++ travel_line travel) old.notes new.notes × FallsOnlySo travel.fallback old.calls new.calls
+      × (prompt → MigratesAll names old.known file travel)
   pub never_stops : s ≢ 2

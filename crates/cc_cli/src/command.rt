@@ -6,8 +6,7 @@ ghost use Rattle.cc_meaning_plain.specs.Laws.{default_limits};
 ghost use Rattle.cc_meaning_plain.specs.Staged.{plain_report};
 ghost use Rattle.cc_cli.specs.Plans.{file_named, BytesPlan, RunPlan, ran_plan};
 ghost use Rattle.cc_link.specs.Links as links;
-ghost use Rattle.cc_link.specs.Honest.{told};
-ghost use Rattle.cc_cli.specs.Offloading.{offload_named};
+ghost use Rattle.cc_cli.specs.Offloading.{tells_of, offload_named};
 ghost use Rattle.cc_cli.specs.Runs.{Sources, CallPlan, WordsPlan};
 
 use crate::fault::Fault;
@@ -89,8 +88,7 @@ fn plan_of<S: Shelf, L: Link>(
 ) -> Result<Plan, AllocError>
     ensures plan { let old : Sources = record { known = S.known shelf.old; counts = S.counts shelf.old; link = L.known link.old; calls = L.counts link.old } in
         let new : Sources = record { known = S.known shelf.new; counts = S.counts shelf.new; link = L.known link.new; calls = L.counts link.new } in
-        IfOk result (λ plan. CallPlan (file_named (map string_bytes words.now)) (offload_named (map string_bytes words.now)) old new (link.new ≡ link.old)
-        (L.honest link.old × (L.known link.old ≡ told [] [])) plan) }
+        IfOk result (λ plan. CallPlan (file_named (map string_bytes words.now)) (offload_named (map string_bytes words.now)) old new (tells_of L.known L.honest L.prompt L.going L.last link.old link.new) plan) }
     ensures link { offload_named (map string_bytes words.now) ≡ None → link.new ≡ link.old }
     ensures known { S.known shelf.new ≡ S.known shelf.old }
     ensures counts { NeverFall (S.counts shelf.old) (S.counts shelf.new) }
@@ -115,7 +113,7 @@ pub fn plan<S: Shelf, L: Link>(
 ) -> Option<Plan>
     ensures plan { let old : Sources = record { known = S.known shelf.old; counts = S.counts shelf.old; link = L.known link.old; calls = L.counts link.old } in
         let new : Sources = record { known = S.known shelf.new; counts = S.counts shelf.new; link = L.known link.new; calls = L.counts link.new } in
-        IfSome result (λ plan. WordsPlan (map string_bytes words.now) old new (link.new ≡ link.old) (L.honest link.old × (L.known link.old ≡ told [] [])) plan) }
+        IfSome result (λ plan. WordsPlan (map string_bytes words.now) old new (tells_of L.known L.honest L.prompt L.going L.last link.old link.new) plan) }
     ensures link { offload_named (map string_bytes words.now) ≡ None → link.new ≡ link.old }
     ensures known { S.known shelf.new ≡ S.known shelf.old }
     ensures counts { NeverFall (S.counts shelf.old) (S.counts shelf.new) }

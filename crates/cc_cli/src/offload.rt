@@ -3,14 +3,13 @@
 ghost use Rattle.std.specs.Prelude.{◌≡◌, ◌≢◌, ◌⊎◌, ◌↔◌, ℕ, ◌≤◌, ◌<◌, [], Option, IfOk, MatchOption, IsSome, length, string_bytes, map};
 ghost use Rattle.cc_outside.specs.Shelves.{NeverFall};
 ghost use Rattle.cc_link.specs.Links as links;
-ghost use Rattle.cc_link.specs.Honest.{told};
 ghost use Rattle.cc_meaning_lines.specs.Travel.{ended_line};
 ghost use Rattle.cc_meaning_plain.specs.Laws.{AreBytes};
 ghost use Rattle.cc_meaning_plain.specs.Plain.{IsPlain};
 ghost use Rattle.cc_meaning_clone.specs.Hello.{no_script};
 ghost use Rattle.cc_partition.specs.Partition.{IsPartition};
 ghost use Rattle.cc_cli.specs.Plans.{IsNotPlain};
-ghost use Rattle.cc_cli.specs.Offloading.{all_names, offload_named, longest_text, UnreadPlan, job_of, ReadPlan, OffloadedPlan, Offloaded, TextPlan, PartitionPlan, ScriptPlan, FilePlan, OffloadPlan};
+ghost use Rattle.cc_cli.specs.Offloading.{tells_of, all_names, offload_named, longest_text, UnreadPlan, job_of, ReadPlan, OffloadedPlan, Offloaded, TextPlan, PartitionPlan, ScriptPlan, FilePlan, OffloadPlan};
 
 use crate::command::{DEFAULT_LIMITS, LONGEST_FILE};
 use crate::fault::Fault;
@@ -119,8 +118,7 @@ fn run_there<L: Link>(
     requires plain { IsPlain job.now.file plain.now }
     requires moved { (i : ℕ) → moved ≡ Some i → i < length plain.now.functions }
     requires job { job.now ≡ job_of job.now.file job.now.place }
-    ensures plan { IfOk result (λ plan. Offloaded job.now.place (L.known link.old) (L.counts link.old) (L.known link.new) (L.counts link.new) (link.new ≡ link.old)
-        (L.honest link.old × (L.known link.old ≡ told [] [])) job.now.file plain.now moved plan) }
+    ensures plan { IfOk result (λ plan. Offloaded job.now.place (L.known link.old) (L.counts link.old) (L.known link.new) (L.counts link.new) (tells_of L.known L.honest L.prompt L.going L.last link.old link.new) job.now.file plain.now moved plan) }
     ensures counts { links.NeverFall (L.counts link.old) (L.counts link.new) }
     ensures honest { L.honest link.old ↔ L.honest link.new }
 {
@@ -144,8 +142,7 @@ fn run_moved<L: Link>(
     requires bytes { AreBytes file }
     requires plain { IsPlain file plain.now }
     requires moved { (i : ℕ) → moved ≡ Some i → i < length plain.now.functions }
-    ensures plan { IfOk result (λ plan. Offloaded place.now (L.known link.old) (L.counts link.old) (L.known link.new) (L.counts link.new) (link.new ≡ link.old)
-        (L.honest link.old × (L.known link.old ≡ told [] [])) file plain.now moved plan) }
+    ensures plan { IfOk result (λ plan. Offloaded place.now (L.known link.old) (L.counts link.old) (L.known link.new) (L.counts link.new) (tells_of L.known L.honest L.prompt L.going L.last link.old link.new) file plain.now moved plan) }
     ensures counts { links.NeverFall (L.counts link.old) (L.counts link.new) }
     ensures honest { L.honest link.old ↔ L.honest link.new }
 {
@@ -164,8 +161,7 @@ fn by_text<L: Link>(
 ) -> Result<Plan, AllocError>
     requires bytes { AreBytes file }
     requires plain { IsPlain file plain.now }
-    ensures plan { IfOk result (λ plan. TextPlan place.now (L.known link.old) (L.counts link.old) (L.known link.new) (L.counts link.new) (link.new ≡ link.old)
-        (L.honest link.old × (L.known link.old ≡ told [] [])) file plain.now text.now plan) }
+    ensures plan { IfOk result (λ plan. TextPlan place.now (L.known link.old) (L.counts link.old) (L.known link.new) (L.counts link.new) (tells_of L.known L.honest L.prompt L.going L.last link.old link.new) file plain.now text.now plan) }
     ensures counts { links.NeverFall (L.counts link.old) (L.counts link.new) }
     ensures honest { L.honest link.old ↔ L.honest link.new }
 {
@@ -189,8 +185,7 @@ fn with_partition<S: Shelf, L: Link>(
     requires plain { IsPlain file plain.now }
     ensures plan { IfOk result (λ plan. ReadPlan (S.known shelf.old) (S.counts shelf.old) names.now.partition.now longest_text (S.counts shelf.new) (link.new ≡ link.old) plan
         (PartitionPlan (all_names names.now.file.now names.now.script.now names.now.partition.now names.now.place.now) (S.known shelf.old) (S.counts shelf.new)
-        (L.known link.old) (L.counts link.old) (L.known link.new) (L.counts link.new) (link.new ≡ link.old)
-        (L.honest link.old × (L.known link.old ≡ told [] [])) file plain.now plan)) }
+        (L.known link.old) (L.counts link.old) (L.known link.new) (L.counts link.new) (tells_of L.known L.honest L.prompt L.going L.last link.old link.new) file plain.now plan)) }
     ensures known { S.known shelf.new ≡ S.known shelf.old }
     ensures shelf { NeverFall (S.counts shelf.old) (S.counts shelf.new) }
     ensures counts { links.NeverFall (L.counts link.old) (L.counts link.new) }
@@ -215,8 +210,7 @@ fn by_script<S: Shelf, L: Link>(
     requires bytes { AreBytes file }
     requires plain { IsPlain file plain.now }
     ensures plan { IfOk result (λ plan. ScriptPlan (all_names names.now.file.now names.now.script.now names.now.partition.now names.now.place.now) (S.known shelf.old) (S.counts shelf.new)
-        (L.known link.old) (L.counts link.old) (L.known link.new) (L.counts link.new) (link.new ≡ link.old)
-        (L.honest link.old × (L.known link.old ≡ told [] [])) file plain.now plan script.now (S.counts shelf.old)) }
+        (L.known link.old) (L.counts link.old) (L.known link.new) (L.counts link.new) (tells_of L.known L.honest L.prompt L.going L.last link.old link.new) file plain.now plan script.now (S.counts shelf.old)) }
     ensures known { S.known shelf.new ≡ S.known shelf.old }
     ensures shelf { NeverFall (S.counts shelf.old) (S.counts shelf.new) }
     ensures counts { links.NeverFall (L.counts link.old) (L.counts link.new) }
@@ -242,8 +236,7 @@ fn with_script<S: Shelf, L: Link>(
     requires plain { IsPlain file plain.now }
     ensures plan { IfOk result (λ plan. ReadPlan (S.known shelf.old) (S.counts shelf.old) names.now.script.now longest_text (S.counts shelf.new) (link.new ≡ link.old) plan
         (ScriptPlan (all_names names.now.file.now names.now.script.now names.now.partition.now names.now.place.now) (S.known shelf.old) (S.counts shelf.new)
-        (L.known link.old) (L.counts link.old) (L.known link.new) (L.counts link.new) (link.new ≡ link.old)
-        (L.honest link.old × (L.known link.old ≡ told [] [])) file plain.now plan)) }
+        (L.known link.old) (L.counts link.old) (L.known link.new) (L.counts link.new) (tells_of L.known L.honest L.prompt L.going L.last link.old link.new) file plain.now plan)) }
     ensures known { S.known shelf.new ≡ S.known shelf.old }
     ensures shelf { NeverFall (S.counts shelf.old) (S.counts shelf.new) }
     ensures counts { links.NeverFall (L.counts link.old) (L.counts link.new) }
@@ -272,8 +265,7 @@ fn by_file<S: Shelf, L: Link>(
     link: &mut L,
 ) -> Result<Plan, AllocError>
     ensures plan { IfOk result (λ plan. FilePlan (all_names names.now.file.now names.now.script.now names.now.partition.now names.now.place.now) (S.known shelf.old) (S.counts shelf.new)
-        (L.known link.old) (L.counts link.old) (L.known link.new) (L.counts link.new) (link.new ≡ link.old)
-        (L.honest link.old × (L.known link.old ≡ told [] [])) plan file (S.counts shelf.old)) }
+        (L.known link.old) (L.counts link.old) (L.known link.new) (L.counts link.new) (tells_of L.known L.honest L.prompt L.going L.last link.old link.new) plan file (S.counts shelf.old)) }
     ensures known { S.known shelf.new ≡ S.known shelf.old }
     ensures shelf { NeverFall (S.counts shelf.old) (S.counts shelf.new) }
     ensures counts { links.NeverFall (L.counts link.old) (L.counts link.new) }
@@ -293,8 +285,7 @@ pub fn offload_files<S: Shelf, L: Link>(
     link: &mut L,
 ) -> Result<Plan, AllocError>
     ensures plan { IfOk result (λ plan. OffloadPlan (all_names names.now.file.now names.now.script.now names.now.partition.now names.now.place.now) (S.known shelf.old) (S.counts shelf.new)
-        (L.known link.old) (L.counts link.old) (L.known link.new) (L.counts link.new) (link.new ≡ link.old)
-        (L.honest link.old × (L.known link.old ≡ told [] [])) (S.counts shelf.old) plan) }
+        (L.known link.old) (L.counts link.old) (L.known link.new) (L.counts link.new) (tells_of L.known L.honest L.prompt L.going L.last link.old link.new) (S.counts shelf.old) plan) }
     ensures known { S.known shelf.new ≡ S.known shelf.old }
     ensures shelf { NeverFall (S.counts shelf.old) (S.counts shelf.new) }
     ensures counts { links.NeverFall (L.counts link.old) (L.counts link.new) }

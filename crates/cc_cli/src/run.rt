@@ -4,7 +4,7 @@ ghost use Rattle.std.specs.Prelude.{◌≡◌, ◌↔◌, ◌≤◌, [], string_
 ghost use Rattle.cc_outside.specs.Shelves.{NeverFall};
 ghost use Rattle.cc_link.specs.Links as links;
 ghost use Rattle.cc_link.specs.Honest.{told};
-ghost use Rattle.cc_cli.specs.Offloading.{Names, offload_named};
+ghost use Rattle.cc_cli.specs.Offloading.{tells_of, Names, offload_named};
 ghost use Rattle.cc_cli.specs.Runs.{Outside, Runs};
 ghost use Rattle.cc_cli.specs.Statuses.{Statuses, Transparent};
 
@@ -37,18 +37,18 @@ pub fn run_words<S: Shelf, O: Sink, N: Sink, L: Link>(
 ) -> u8
     ensures runs { let before : Outside = record { known = S.known shelf.old; counts = S.counts shelf.old; link = L.known link.old; calls = L.counts link.old; out = O.pipe out.old; notes = N.pipe notes.old } in
         let after : Outside = record { known = S.known shelf.new; counts = S.counts shelf.new; link = L.known link.new; calls = L.counts link.new; out = O.pipe out.new; notes = N.pipe notes.new } in
-        Runs (map string_bytes words.now) before result after (link.new ≡ link.old) (L.honest link.old × (L.known link.old ≡ told [] [])) }
+        Runs (map string_bytes words.now) before result after (tells_of L.known L.honest L.prompt L.going L.last link.old link.new) }
     ensures statuses { let before : Outside = record { known = S.known shelf.old; counts = S.counts shelf.old; link = L.known link.old; calls = L.counts link.old; out = O.pipe out.old; notes = N.pipe notes.old } in
         let after : Outside = record { known = S.known shelf.new; counts = S.counts shelf.new; link = L.known link.new; calls = L.counts link.new; out = O.pipe out.new; notes = N.pipe notes.new } in
-        Statuses (map string_bytes words.now) before result after (link.new ≡ link.old) (L.honest link.old × (L.known link.old ≡ told [] [])) }
+        Statuses (map string_bytes words.now) before result after (tells_of L.known L.honest L.prompt L.going L.last link.old link.new) }
     ensures files { S.known shelf.new ≡ S.known shelf.old }
     ensures counts { NeverFall (S.counts shelf.old) (S.counts shelf.new) }
     ensures out { (O.pipe out.old).faults ≤ (O.pipe out.new).faults }
     ensures notes { (N.pipe notes.old).faults ≤ (N.pipe notes.new).faults }
-    // Over a fresh link that tells that its far side is a clone, `offload` writes what the run on one heap writes, and it falls back only where a count of the link rose.
+    // Over a fresh link that tells that its far side is a clone, `offload` writes what the run on one heap writes, and it falls back only where a count of the link rose; over one that is prompt besides it never does.
     ensures transparent { let before : Outside = record { known = S.known shelf.old; counts = S.counts shelf.old; link = L.known link.old; calls = L.counts link.old; out = O.pipe out.old; notes = N.pipe notes.old } in
         let after : Outside = record { known = S.known shelf.new; counts = S.counts shelf.new; link = L.known link.new; calls = L.counts link.new; out = O.pipe out.new; notes = N.pipe notes.new } in
-        (names : Names) → offload_named (map string_bytes words.now) ≡ Some names → L.honest link.old → L.known link.old ≡ told [] [] → Transparent names before result after }
+        (names : Names) → offload_named (map string_bytes words.now) ≡ Some names → L.honest link.old → L.known link.old ≡ told [] [] → Transparent names before result after (L.prompt link.old) }
     // No other command calls the link.
     ensures link { offload_named (map string_bytes words.now) ≡ None → link.new ≡ link.old }
     ensures calls { links.NeverFall (L.counts link.old) (L.counts link.new) }

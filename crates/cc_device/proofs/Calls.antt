@@ -1,5 +1,5 @@
 -- What a call comes to, and how the device stands behind it.
-use Rattle.std.proofs.Common.{◌≡◌, ◌≢◌, ℕ, zero, suc, ◌+◌, ◌-◌, ◌≤◌, ◌<◌, ◌^◌, ◌==◌, ◌&&◌, not, cond, Bool, true, false, ℤ, w32, List, [], ◌∷◌, ◌++◌, length, Option, Some, None, Result, Ok, Err, is_some, refl, sym, ap, ◌∙◌, subst, arith, slice_get, FitsSigned, inl, inr, ◌⊎◌}
+use Rattle.std.proofs.Common.{◌≡◌, ℕ, zero, suc, ◌+◌, ◌-◌, ◌≤◌, ◌<◌, ◌==◌, cond, Bool, true, false, ℤ, w32, List, [], ◌∷◌, length, Option, Some, None, Result, Ok, Err, is_some, refl, sym, ap, ◌∙◌, subst, arith, slice_get, FitsSigned}
 use Rattle.std.proofs.lemmas.Bool.{and_parts, leb-true}
 use Rattle.cc_meaning.specs.declared.file.Job.{Job}
 use Rattle.cc_meaning.specs.declared.fault.ImageFault.{ImageFault}
@@ -14,8 +14,7 @@ use Rattle.cc_meaning_images.proofs.Runs.{was_whole}
 use Rattle.cc_meaning_nodes.specs.Clone.{back_kind}
 use Rattle.cc_meaning_nodes.specs.FrameLaws.{GoesOn, NothingMore, BeginsWithWhole}
 use Rattle.cc_meaning_plain.specs.declared.plain.Plain.{Plain}
-use Rattle.cc_meaning_plain.specs.declared.plain.PlainFunction.{PlainFunction}
-use Rattle.cc_meaning_plain.specs.Program.{function_number, program_of}
+use Rattle.cc_meaning_plain.specs.Program.{program_of}
 use Rattle.cc_meaning_device.specs.Received.{Received}
 use Rattle.cc_meaning_device.specs.Straight.{entry_image, value_back, Course}
 use Rattle.cc_meaning_device.specs.Entries.{EntryIsRun, FunctionsAreFew}
@@ -32,7 +31,7 @@ use Rattle.cc_device.specs.Judging.{wrong_frame, judge_image, judge_back}
 use Rattle.cc_device.specs.Travelling.{IsOfFile, moves_of, stops_in, hello_bytes, Took, called_alone, opened_first, Reaches, paused_course, behind_call, received_of, GoesSo, Stood, CallsThere, gives_back, falls_back, CallDone, IsLater}
 use Rattle.cc_device.proofs.Keeping.{here_keeps}
 use Rattle.cc_device.proofs.Pauses.{done_by}
-use Rattle.cc_device.proofs.Stands.{reaching, fallen_by, own_course, stood_by_back, stood_by_fall}
+use Rattle.cc_device.proofs.Stands.{reaching, own_course, stood_by_back, stood_by_fall}
 
 -- ---- what a caller of the clone has
 
@@ -80,47 +79,47 @@ took_fewer p hello run sent got back false (opened_first ready first sent2 got2 
 as_reaching : (contact : Contact) → contact.end ≡ None → contact ≡ reaching contact.is_open contact.merged
 as_reaching contact e = ap (λ (end : Option LinkEnd). record { is_open = contact.is_open; merged = contact.merged; end = end }) e
 
-module _ (goes_on : GoesOn) (nothing : NothingMore) (whole : BeginsWithWhole) (plain : Plain) (moved : Option ℕ) (job : Job) (entry : Entry) (q : Progress) (contact : Contact)
-    (is : moved ≡ Some entry.function) (reach : contact.end ≡ None) (k1 k2 : Known) (c1 c2 : Counts) (n : NeverFall c1 c2) where
-  back_stands : (back : BackImage) → Reaches (program_of plain) (hello_bytes job) job.patience (entry_image plain entry.function entry.argument q.instructions q.words) contact.is_open k1 c1 (Ok back) k2 c2 →
-      CallDone plain moved job entry q contact k1 c1 k2 c2 ⊥ (record { value = value_back back.ending; instructions = back.instructions; words = back.words }) (record { is_open = true; merged = contact.merged + 1; end = contact.end })
-  back_stands back r =
-      let fewer = took_fewer (program_of plain) (hello_bytes job) _ r.sent r.got back contact.is_open r.came in
-      record {
-        stands = λ k0 first s.
-            subst (λ (end : Option LinkEnd). Stood plain moved job (record { is_open = true; merged = contact.merged + 1; end = end }) (behind_call plain (moves_of plain moved) entry.to (record { value = value_back back.ending; instructions = back.instructions; words = back.words }) q) k0 first k2 c2) (sym reach)
-            (stood_by_back goes_on nothing whole plain moved job entry q contact.is_open contact.merged k0 k1 k2 first c1 c2 back is n
-            (subst (λ (x : Contact). Stood plain moved job x (paused_course plain (moves_of plain moved) (pauses.AtEntry entry) q) k0 first k1 c1) (as_reaching contact reach) s) r);
-        instructions = fewer.0;
-        words = fewer.1;
-        merged = omega arith;
-        home = λ closed. absurd cc;
-      }
+module _ (plain : Plain) (job : Job) (entry : Entry) (q : Progress) (contact : Contact) (k1 k2 : Known) (c1 c2 : Counts) (still : Type 0) where
+  pub back_kept : (run : RunImage) (came : Came) (contact' : Contact) → run ≡ entry_image plain entry.function entry.argument q.instructions q.words → CallsThere plain job run contact k1 c1 still k2 c2 (Some came) contact' →
+      CallDone q contact ⊥ came contact'
+  back_kept run came contact' is (gives_back back r) =
+      let fewer = took_fewer (program_of plain) (hello_bytes job) run r.sent r.got back contact.is_open r.came in
+      let same : run.instructions ≡ q.instructions = ap RunImage.instructions is in
+      let sized : run.words ≡ q.words = ap RunImage.words is in
+      record { instructions = omega (arith, fewer.0, same); words = omega (arith, fewer.1, sized); merged = omega arith; home = λ closed. absurd cc }
 
-  fall_stands : (e : LinkEnd) → Reaches (program_of plain) (hello_bytes job) job.patience (entry_image plain entry.function entry.argument q.instructions q.words) contact.is_open k1 c1 (Err (halts.End e)) k2 c2 →
-      CallDone plain moved job entry q contact k1 c1 k2 c2 ⊥ (came_here plain.functions entry.function entry.argument q.instructions q.words) (record { is_open = contact.is_open; merged = contact.merged; end = Some e })
-  fall_stands e r =
+  pub fall_kept : (run : RunImage) (came : Came) (contact' : Contact) → CallsThere plain job run contact k1 c1 still k2 c2 None contact' → came ≡ came_here plain.functions entry.function entry.argument q.instructions q.words →
+      CallDone q contact ⊥ came contact'
+  fall_kept run came contact' (falls_back end r) here =
       let fewer = here_keeps plain.functions entry.function entry.argument q.instructions q.words in
-      record {
-        stands = λ k0 first s.
-            stood_by_fall goes_on nothing whole plain moved job entry q contact.is_open contact.merged k0 k1 k2 first c1 c2 e is n
-            (subst (λ (x : Contact). Stood plain moved job x (paused_course plain (moves_of plain moved) (pauses.AtEntry entry) q) k0 first k1 c1) (as_reaching contact reach) s) r;
-        instructions = fewer.0;
-        words = fewer.1;
-        merged = omega arith;
-        home = λ closed none. absurd cc;
-      }
+      subst (λ (x : Came). CallDone q contact ⊥ x (record { is_open = contact.is_open; merged = contact.merged; end = Some end })) (sym here)
+      (record { instructions = fewer.0; words = fewer.1; merged = omega arith; home = λ closed none. absurd cc })
 
-  pub back_done : (run : RunImage) (came : Came) (contact' : Contact) → run ≡ entry_image plain entry.function entry.argument q.instructions q.words → CallsThere plain job run contact k1 c1 k2 c2 (Some came) contact' →
-      CallDone plain moved job entry q contact k1 c1 k2 c2 ⊥ came contact'
-  back_done run came contact' e (gives_back back r) =
-      back_stands back (subst (λ (x : RunImage). Reaches (program_of plain) (hello_bytes job) job.patience x contact.is_open k1 c1 (Ok back) k2 c2) e r)
+module _ (goes_on : GoesOn) (nothing : NothingMore) (whole : BeginsWithWhole) (plain : Plain) (moved : Option ℕ) (job : Job) (entry : Entry) (q : Progress) (contact : Contact)
+    (is : moved ≡ Some entry.function) (reach : contact.end ≡ None) (k0 k1 k2 : Known) (first c1 c2 : Counts) (prompt still now : Type 0) (n : NeverFall c1 c2)
+    (s : Stood plain moved job contact (paused_course plain (moves_of plain moved) (pauses.AtEntry entry) q) k0 first prompt k1 c1 still) where
+  stood_reaching : Stood plain moved job (reaching contact.is_open contact.merged) (paused_course plain (moves_of plain moved) (pauses.AtEntry entry) q) k0 first prompt k1 c1 still
+  stood_reaching =
+      subst (λ (x : Contact). Stood plain moved job x (paused_course plain (moves_of plain moved) (pauses.AtEntry entry) q) k0 first prompt k1 c1 still) (as_reaching contact reach) s
 
-  pub fall_done : (run : RunImage) (came : Came) (contact' : Contact) → run ≡ entry_image plain entry.function entry.argument q.instructions q.words → CallsThere plain job run contact k1 c1 k2 c2 None contact' →
-      came ≡ came_here plain.functions entry.function entry.argument q.instructions q.words → CallDone plain moved job entry q contact k1 c1 k2 c2 ⊥ came contact'
-  fall_done run came contact' e (falls_back end r) here =
-      subst (λ (x : Came). CallDone plain moved job entry q contact k1 c1 k2 c2 ⊥ x (record { is_open = contact.is_open; merged = contact.merged; end = Some end })) (sym here)
-      (fall_stands end (subst (λ (x : RunImage). Reaches (program_of plain) (hello_bytes job) job.patience x contact.is_open k1 c1 (Err (halts.End end)) k2 c2) e r))
+  back_stands : (back : BackImage) → (still → now) → Reaches (program_of plain) (hello_bytes job) job.patience (entry_image plain entry.function entry.argument q.instructions q.words) contact.is_open k1 c1 still (Ok back) k2 c2 →
+      Stood plain moved job (record { is_open = true; merged = contact.merged + 1; end = contact.end }) (behind_call plain (moves_of plain moved) entry.to (record { value = value_back back.ending; instructions = back.instructions; words = back.words }) q) k0 first prompt k2 c2 now
+  back_stands back stays r =
+      subst (λ (end : Option LinkEnd). Stood plain moved job (record { is_open = true; merged = contact.merged + 1; end = end })
+      (behind_call plain (moves_of plain moved) entry.to (record { value = value_back back.ending; instructions = back.instructions; words = back.words }) q) k0 first prompt k2 c2 now) (sym reach)
+      (stood_by_back goes_on nothing whole plain moved job entry q contact.is_open contact.merged k0 k1 k2 first c1 c2 prompt still now back is n stays stood_reaching r)
+
+  pub back_stood : (run : RunImage) (came : Came) (contact' : Contact) → run ≡ entry_image plain entry.function entry.argument q.instructions q.words → CallsThere plain job run contact k1 c1 still k2 c2 (Some came) contact' → (contact'.end ≡ None → still → now) →
+      Stood plain moved job contact' (behind_call plain (moves_of plain moved) entry.to came q) k0 first prompt k2 c2 now
+  back_stood run came contact' e (gives_back back r) stays =
+      back_stands back (stays reach) (subst (λ (x : RunImage). Reaches (program_of plain) (hello_bytes job) job.patience x contact.is_open k1 c1 still (Ok back) k2 c2) e r)
+
+  pub fall_stood : (run : RunImage) (came : Came) (contact' : Contact) → run ≡ entry_image plain entry.function entry.argument q.instructions q.words → CallsThere plain job run contact k1 c1 still k2 c2 None contact' →
+      came ≡ came_here plain.functions entry.function entry.argument q.instructions q.words → Stood plain moved job contact' (behind_call plain (moves_of plain moved) entry.to came q) k0 first prompt k2 c2 now
+  fall_stood run came contact' e (falls_back end r) here =
+      subst (λ (x : Came). Stood plain moved job (record { is_open = contact.is_open; merged = contact.merged; end = Some end }) (behind_call plain (moves_of plain moved) entry.to x q) k0 first prompt k2 c2 now) (sym here)
+      (stood_by_fall goes_on nothing whole plain moved job entry q contact.is_open contact.merged k0 k1 k2 first c1 c2 prompt still now end is n stood_reaching
+      (subst (λ (x : RunImage). Reaches (program_of plain) (hello_bytes job) job.patience x contact.is_open k1 c1 still (Err (halts.End end)) k2 c2) e r))
 
 -- ---- a call that is done here
 
@@ -135,33 +134,33 @@ stop_is (Some stop) f h = ap (λ (n : ℕ). Some n) (same stop f h)
     same : (a b : ℕ) → (a == b) ≡ true → a ≡ b
     same a b e = grind (arith, e)
 
-pub own_done : (goes_on : GoesOn) (nothing : NothingMore) (whole : BeginsWithWhole) (plain : Plain) (moved : Option ℕ) (job : Job) (entry : Entry) (q : Progress) (contact : Contact) (k : Known) (c : Counts) (untouched : Type 0) (came : Came) → untouched →
-    is_stop (stops_in (is_some contact.end) moved) entry.function ≡ false → came ≡ came_here plain.functions entry.function entry.argument q.instructions q.words → CallDone plain moved job entry q contact k c k c untouched came contact
-own_done goes_on nothing whole plain moved job entry q contact k c untouched came u other here =
-    subst (λ (x : Came). CallDone plain moved job entry q contact k c k c untouched x contact) (sym here)
+pub own_kept : (plain : Plain) (entry : Entry) (q : Progress) (contact : Contact) (untouched : Type 0) (came : Came) → untouched → came ≡ came_here plain.functions entry.function entry.argument q.instructions q.words →
+    CallDone q contact untouched came contact
+own_kept plain entry q contact untouched came u here =
+    subst (λ (x : Came). CallDone q contact untouched x contact) (sym here)
     (let fewer = here_keeps plain.functions entry.function entry.argument q.instructions q.words in
-    record {
-      stands = λ k0 first s. record {
-        sent = s.sent;
-        got = s.got;
-        images = s.images;
-        known = s.known;
-        counts = s.counts;
-        travels = s.travels;
-        course = goes_map contact.end _ _ _ s.got (λ frames. own_course goes_on nothing whole plain moved job entry q (received_of contact s.images frames)
-            (done_by plain moved (received_of contact s.images frames) (is_some contact.end) refl entry.function other)) s.course;
-      };
-      instructions = fewer.0;
-      words = fewer.1;
-      merged = omega arith;
-      home = λ closed none. u;
+    record { instructions = fewer.0; words = fewer.1; merged = omega arith; home = λ closed none. u })
+
+pub own_stood : (goes_on : GoesOn) (nothing : NothingMore) (whole : BeginsWithWhole) (plain : Plain) (moved : Option ℕ) (job : Job) (entry : Entry) (q : Progress) (contact : Contact) (k0 k : Known) (first c : Counts) (prompt still : Type 0) (came : Came) →
+    is_stop (stops_in (is_some contact.end) moved) entry.function ≡ false → came ≡ came_here plain.functions entry.function entry.argument q.instructions q.words →
+    Stood plain moved job contact (paused_course plain (moves_of plain moved) (pauses.AtEntry entry) q) k0 first prompt k c still → Stood plain moved job contact (behind_call plain (moves_of plain moved) entry.to came q) k0 first prompt k c still
+own_stood goes_on nothing whole plain moved job entry q contact k0 k first c prompt still came other here s =
+    subst (λ (x : Came). Stood plain moved job contact (behind_call plain (moves_of plain moved) entry.to x q) k0 first prompt k c still) (sym here)
+    (record {
+      sent = s.sent;
+      got = s.got;
+      images = s.images;
+      known = s.known;
+      counts = s.counts;
+      stays = s.stays;
+      travels = s.travels;
+      course = goes_map contact.end _ _ _ s.got (λ frames. own_course goes_on nothing whole plain moved job entry q (received_of contact s.images frames)
+          (done_by plain moved (received_of contact s.images frames) (is_some contact.end) refl entry.function other)) s.course;
     })
 
 -- what is promised of each untouched link is promised of this one
-pub any_home : (plain : Plain) (moved : Option ℕ) (job : Job) (entry : Entry) (q : Progress) (contact : Contact) (k1 k2 : Known) (c1 c2 : Counts) (untouched : Type 0) (came : Came) (contact' : Contact) →
-    CallDone plain moved job entry q contact k1 c1 k2 c2 ⊥ came contact' → CallDone plain moved job entry q contact k1 c1 k2 c2 untouched came contact'
-any_home plain moved job entry q contact k1 k2 c1 c2 untouched came contact' d = record {
-  stands = d.stands;
+pub any_home : (q : Progress) (contact : Contact) (untouched : Type 0) (came : Came) (contact' : Contact) → CallDone q contact ⊥ came contact' → CallDone q contact untouched came contact'
+any_home q contact untouched came contact' d = record {
   instructions = d.instructions;
   words = d.words;
   merged = d.merged;
@@ -171,6 +170,9 @@ any_home plain moved job entry q contact k1 k2 c1 c2 untouched came contact' d =
 pub moved_by : (fallen : Bool) (moved : Option ℕ) (f : ℕ) → stops_in fallen moved ≡ Some f → (moved ≡ Some f) × (fallen ≡ false)
 moved_by true moved f e = absurd cc
 moved_by false moved f e = (e, refl)
+
+pub none_moved : {A : Type 0} (moved : Option ℕ) (f : ℕ) → moved ≡ None → moved ≡ Some f → A
+none_moved moved f none some = let both = sym none ∙ some in absurd cc
 
 pub still_reaching : (end : Option LinkEnd) → is_some end ≡ false → end ≡ None
 still_reaching None e = refl
@@ -183,14 +185,15 @@ abbrev pub waiting : Pause → ℕ → ℕ
 waiting (pauses.AtEntry entry) left = suc left
 waiting (pauses.Done ends) left = 0
 
-pub stood_map : (plain : Plain) (moved : Option ℕ) (job : Job) (contact : Contact) (left left' : Received → Course) (k : Known) (c : Counts) (k' : Known) (c' : Counts) →
-    ((t : Received) → t.fallen ≡ is_some contact.end → left t ≡ left' t) → Stood plain moved job contact left k c k' c' → Stood plain moved job contact left' k c k' c'
-stood_map plain moved job contact left left' k c k' c' same s = record {
+pub stood_map : (plain : Plain) (moved : Option ℕ) (job : Job) (contact : Contact) (left left' : Received → Course) (k : Known) (c : Counts) (prompt : Type 0) (k' : Known) (c' : Counts) (still : Type 0) →
+    ((t : Received) → t.fallen ≡ is_some contact.end → left t ≡ left' t) → Stood plain moved job contact left k c prompt k' c' still → Stood plain moved job contact left' k c prompt k' c' still
+stood_map plain moved job contact left left' k c prompt k' c' still same s = record {
   sent = s.sent;
   got = s.got;
   images = s.images;
   known = s.known;
   counts = s.counts;
+  stays = s.stays;
   travels = s.travels;
   course = goes_map contact.end _ _ _ s.got (λ frames. same (received_of contact s.images frames) refl) s.course;
 }

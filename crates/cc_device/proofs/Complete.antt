@@ -1,17 +1,16 @@
 -- Over an honest link a device falls back only where a count of the link rose.
-use Rattle.std.proofs.Common.{◌≡◌, ◌⊎◌, inl, inr, ℕ, suc, ◌+◌, ◌≤◌, Bool, List, [], ◌∷◌, ◌++◌, length, map, Option, Some, None, Result, Ok, Err, refl, sym, ap, ◌∙◌, subst, arith}
+use Rattle.std.proofs.Common.{◌≡◌, inl, inr, ℕ, ◌≤◌, List, [], ◌∷◌, ◌++◌, length, map, Option, Some, None, Result, Ok, Err, refl, sym, ap, ◌∙◌, subst, arith}
 use Rattle.std.specs.List.{AllByRecursion}
 use Rattle.cc_meaning.specs.declared.file.Job.{Job}
 use Rattle.cc_meaning.specs.declared.frame.Frame.{Frame}
 use Rattle.cc_meaning.specs.declared.image.RunImage.{RunImage}
 use Rattle.cc_meaning.specs.declared.image.BackImage.{BackImage}
-use Rattle.cc_meaning.specs.declared.program.Program.{Program}
 use Rattle.cc_meaning.specs.declared.report.Report.{Report}
 use Rattle.cc_meaning.specs.declared.travel.LinkEnd.{LinkEnd}
 use Rattle.cc_meaning.specs.declared.travel.LinkEnd.TheVariants as ends
 use Rattle.cc_meaning.specs.declared.travel.Travel.{Travel}
 use Rattle.cc_meaning_images.specs.Reading.{read_back}
-use Rattle.cc_meaning_nodes.specs.Frames.{Ending, Rest, Fails, frames_of}
+use Rattle.cc_meaning_nodes.specs.Frames.{Rest, Fails, frames_of}
 use Rattle.cc_meaning_nodes.specs.FrameLaws.{GoesOn, IsReadAgain}
 use Rattle.cc_meaning_plain.specs.declared.plain.Plain.{Plain}
 use Rattle.cc_meaning_plain.specs.Program.{program_of}
@@ -20,7 +19,7 @@ use Rattle.cc_meaning_device.specs.Complete.{ready_frame, back_frame, IsAnswerab
 use Rattle.cc_outside.specs.Counting.{Rose, RoseBy}
 use Rattle.cc_link.specs.Links.{Known, Counts}
 use Rattle.cc_link.specs.Honest.{IsHonestLink, told}
-use Rattle.cc_device.specs.Exchanging.{SendingEnds}
+use Rattle.cc_device.specs.Exchanging.{Span, span, SendingEnds}
 use Rattle.cc_device.specs.Judging.{judge_ready, judge_image, judge_back}
 use Rattle.cc_device.specs.Travelling.{IsOfFile, moves_of, hello_payload, hello_bytes, JudgedSo, AwaitingEnded, EndsTravel, not_dialed, in_sending, in_awaiting, by_frame, TravelsAs, offloaded_over, Offloads, SomeRose, FallsOnlySo}
 use Rattle.cc_device.proofs.Offloaded.{exchange}
@@ -48,7 +47,7 @@ stands_there plain (f ∷ rest) (other ∷ others) frame image missing e same = 
     tails : (x y : Frame) (xs ys : List Frame) → x ∷ xs ≡ y ∷ ys → xs ≡ ys
     tails x y xs ys e = cc
 
-first_is : (x y : Frame) (xs ys : List Frame) → x ∷ xs ≡ y ∷ ys → x ≡ y
+pub first_is : (x y : Frame) (xs ys : List Frame) → x ∷ xs ≡ y ∷ ys → x ≡ y
 first_is x y xs ys e = cc
 
 rest_is : (x y : Frame) (xs ys : List Frame) → x ∷ xs ≡ y ∷ ys → xs ≡ ys
@@ -57,7 +56,7 @@ rest_is x y xs ys e = cc
 never_both : {A B : Type 0} {x : A} {y : B} {r : Result A B} → r ≡ Ok x → r ≡ Err y → ⊥
 never_both e f = let both = sym e ∙ f in cc
 
-was_awaited : (plain : Plain) (images : List RunImage) (got : List ℕ) → ComesInOrder plain images got → AllByRecursion (IsAnswerable plain) images → (before : List Frame) (frame : Frame) (e : LinkEnd) →
+pub was_awaited : (plain : Plain) (images : List RunImage) (got : List ℕ) → ComesInOrder plain images got → AllByRecursion (IsAnswerable plain) images → (before : List Frame) (frame : Frame) (e : LinkEnd) →
     (frames_of got).frames ≡ before ++ frame ∷ [] → JudgedSo (program_of plain) before images frame e → ⊥
 was_awaited plain images got came fit [] frame e last judged =
     let all : (frame ∷ []) ++ came.missing ≡ ready_frame ∷ map (back_frame plain) images = ap (λ (fs : List Frame). fs ++ came.missing) (sym last) ∙ came.frames in
@@ -98,22 +97,22 @@ awaiting_rose got patience (ends.Unexpected kind) old new patient rest whole why
 awaiting_rose got patience (ends.Unfit fault) old new patient rest whole why = absurd why
 awaiting_rose got patience (ends.Refused status) old new patient rest whole why = absurd why
 
-module _ (plain : Plain) (hello : List ℕ) (patience : ℕ) (patient : 1 ≤ patience) (sent got : List ℕ) (images : List RunImage) (came : ComesInOrder plain images got) (fit : AllByRecursion (IsAnswerable plain) images) (old new : Counts) where
-  ends_rose : (e : LinkEnd) → EndsTravel (program_of plain) hello patience sent got images e old new → SomeRose old new
-  ends_rose e (not_dialed is none nothing rose) = inl rose
-  ends_rose e (in_sending front whole why) = sending_rose patience e old new patient why
-  ends_rose e (in_awaiting all why) = awaiting_rose got patience e old new patient came.rest came.whole why
+module _ (plain : Plain) (hello : List ℕ) (patience : ℕ) (patient : 1 ≤ patience) (sent got : List ℕ) (images : List RunImage) (came : ComesInOrder plain images got) (fit : AllByRecursion (IsAnswerable plain) images) (c : Span) where
+  ends_rose : (e : LinkEnd) → EndsTravel (program_of plain) hello patience sent got images e c → SomeRose c.old c.new
+  ends_rose e (not_dialed is none nothing rose up) = inl rose
+  ends_rose e (in_sending front whole why taken) = sending_rose patience e c.old c.new patient why
+  ends_rose e (in_awaiting all fewer why given) = awaiting_rose got patience e c.old c.new patient came.rest came.whole why
   ends_rose e (by_frame before frame all whole last judged) = absurd (was_awaited plain images got came fit before frame e last judged)
 
-  falls_only : (end : Option LinkEnd) → TravelsAs (program_of plain) hello patience end sent got images old new → FallsOnlySo end old new
+  falls_only : (end : Option LinkEnd) → TravelsAs (program_of plain) hello patience end sent got images c → FallsOnlySo end c.old c.new
   falls_only None travels = tt
   falls_only (Some e) travels = ends_rose e travels.1
 
-pub is_complete : (comes : StreamComesInOrder) (noted : NotedIsAnswered) (goes_on : GoesOn) (again : IsReadAgain) (plain : Plain) (moved : Option ℕ) (job : Job) (report : Report) (travel : Travel) (k : Known) (old : Counts) (k' : Known) (new : Counts) (untouched : Type 0) → IsOfFile plain →
+pub is_complete : (comes : StreamComesInOrder) (noted : NotedIsAnswered) (goes_on : GoesOn) (again : IsReadAgain) (plain : Plain) (moved : Option ℕ) (job : Job) (report : Report) (travel : Travel) (k : Known) (old : Counts) (prompt : Type 0) (k' : Known) (new : Counts) (untouched : Type 0) → IsOfFile plain →
     job.limits.instructions ≤ 4294967296 → job.limits.words ≤ 4194304 → 1 ≤ job.patience → length (hello_payload job) ≤ 67108864 →
-    IsHonestLink k' → k ≡ told [] [] → IsHelloOf (hello_payload job) plain → Offloads plain moved job report travel k old k' new untouched → FallsOnlySo travel.fallback old new
-is_complete comes noted goes_on again plain moved job report travel k old k' new untouched f few small patient short honest fresh hello o =
+    IsHonestLink k' → k ≡ told [] [] → IsHelloOf (hello_payload job) plain → Offloads plain moved job report travel k old prompt k' new untouched → FallsOnlySo travel.fallback old new
+is_complete comes noted goes_on again plain moved job report travel k old prompt k' new untouched f few small patient short honest fresh hello o =
     let images = (offloaded_over plain moved job.limits (frames_of o.got).frames).received.images in
     let are = noted f.0 plain (moves_of plain moved) job.limits (frames_of o.got).frames f.1 f.2 few small in
-    let came = comes f.0 plain images o.got f.1 f.2 are.0 (exchange goes_on again plain moved job report travel k old k' new untouched short honest fresh hello o) in
-    falls_only plain (hello_bytes job) job.patience patient o.sent o.got images came are.1 old new travel.fallback o.travels
+    let came = comes f.0 plain images o.got f.1 f.2 are.0 (exchange goes_on again plain moved job report travel k old prompt k' new untouched short honest fresh hello o) in
+    falls_only plain (hello_bytes job) job.patience patient o.sent o.got images came are.1 (span old new prompt k') travel.fallback o.travels

@@ -1,7 +1,7 @@
 -- What a run that goes down its instructions and pauses comes to, over the frames that come.
-use Rattle.std.proofs.Common.{◌≡◌, ◌≢◌, ℕ, zero, suc, ◌+◌, ◌-◌, ◌≤◌, ◌<◌, ◌==◌, ◌&&◌, not, cond, Bool, true, false, ℤ, pos, List, [], ◌∷◌, ◌++◌, length, drop, Option, Some, None, Result, Ok, Err, is_some, refl, sym, ap, ◌∙◌, subst, arith, slice_get, slice_set, replicate, nat_lt}
+use Rattle.std.proofs.Common.{◌≡◌, ◌≢◌, ℕ, zero, suc, ◌+◌, ◌==◌, ◌&&◌, not, cond, Bool, true, false, ℤ, List, [], ◌∷◌, ◌++◌, length, drop, Option, Some, None, Result, Ok, Err, refl, sym, ap, ◌∙◌, arith, slice_get, slice_set, nat_lt}
 use Rattle.std.proofs.lemmas.Bool.Decides.{nat_tests}
-use Rattle.std.proofs.lemmas.List.{append_assoc, append-nil, drop_more}
+use Rattle.std.proofs.lemmas.List.{append_assoc, append-nil}
 use Rattle.cc_meaning.specs.declared.report.StopCause.{StopCause}
 use Rattle.cc_meaning.specs.declared.report.StopCause.TheVariants as cause
 use Rattle.cc_meaning.specs.declared.report.Ending.{Ending}
@@ -10,18 +10,14 @@ use Rattle.cc_meaning_run.specs.Acts.{less_by}
 use Rattle.cc_meaning_run.specs.Instructions.{line_of}
 use Rattle.cc_meaning_plain.specs.declared.plain.PlainInsn.{PlainInsn}
 use Rattle.cc_meaning_plain.specs.declared.plain.PlainInsn.TheVariants.{SgetOut, Const4, AddInt2Addr, AddIntLit8, InvokePrintln, CallFunction}
-use Rattle.cc_meaning_plain.specs.declared.plain.PlainFunction.{PlainFunction}
 use Rattle.cc_meaning_plain.specs.declared.plain.Plain.{Plain}
-use Rattle.cc_meaning_plain.specs.Program.{function_number, shifted, before_main, first_method}
+use Rattle.cc_meaning_plain.specs.Program.{function_number, shifted, before_main}
 use Rattle.cc_meaning_plain.specs.Text.{number_at, numbers_after, value_by, instructions_by}
 use Rattle.cc_meaning_device.specs.Received.{Received}
-use Rattle.cc_meaning_device.specs.Straight.{Came as CourseCame, given_here, called_here, called_there, entry_image, called, Course, course_ends, course_with_line, course_taking, course_printing, course_behind, course_came, course_of}
+use Rattle.cc_meaning_device.specs.Straight.{given_here, called_here, called_there, entry_image, called, Course, course_ends, course_with_line, course_taking, course_printing, course_behind, course_came, course_of}
 use Rattle.cc_machine.specs.declared.progress.Progress.{Progress}
-use Rattle.cc_machine.specs.declared.progress.Entry.{Entry}
 use Rattle.cc_machine.specs.declared.progress.Came.{Came}
-use Rattle.cc_machine.specs.declared.progress.Pause.{Pause}
-use Rattle.cc_machine.specs.declared.progress.Pause.TheVariants as pauses
-use Rattle.cc_machine.specs.Going.{Stepped, OnWith, Paused, Went, stepped_to, stopped, taking, result_taken, behind, came_back, given, came_here, printed, is_stop, entered, entry_of, acted, stepped, returned, gone_on, goes}
+use Rattle.cc_machine.specs.Going.{Stepped, OnWith, Went, taking, result_taken, behind, came_back, given, came_here, printed, is_stop, entered, entry_of, acted, stepped, returned, gone_on, goes}
 use Rattle.cc_machine.specs.Running.{stage_ended}
 use Rattle.cc_device.specs.Travelling.{moves_of, paused_course}
 

@@ -1,17 +1,14 @@
 -- What bytes that were sent and got come to.
-use Rattle.std.proofs.Common.{inl, inr, ◌≡◌, ◌≢◌, ◌↔◌, ℕ, ◌+◌, ◌-◌, ◌^◌, ◌<◌, ◌≤◌, min, cond, List, [], ◌++◌, length, take, drop, Option, Some, None, Result, Ok, Err, refl, sym, ap, subst, ◌∙◌, arith, append_assoc}
-use Rattle.std.specs.Prelude.{MatchOption, is_some}
+use Rattle.std.proofs.Common.{◌≡◌, ℕ, ◌+◌, ◌≤◌, List, [], ◌++◌, take, drop, Option, Some, None, Err, refl, sym, ap, ◌∙◌, arith, append_assoc}
 use Rattle.std.proofs.lemmas.List.{append-nil, take-append-drop}
-use Rattle.cc_meaning.specs.declared.frame.Frame.{Frame}
-use Rattle.cc_meaning_nodes.specs.Frames.{Partial, Whole, front_of, Ending, Rest, Fails}
+use Rattle.cc_meaning_nodes.specs.Frames.{Ending}
 use Rattle.cc_outside.specs.Counting.{Rose, RoseBy}
 use Rattle.cc_outside.specs.Telling.{more}
-use Rattle.cc_framing.specs.Reader.{Feeds, Holds, IsReading, standing, without_standing, wanted_of, wanted_in}
 use Rattle.cc_link.specs.Links.{Counts, NeverFall, Known, known_got, known_sent}
 use Rattle.cc_device.specs.declared.exchange.Halt.{Halt}
 use Rattle.cc_device.specs.declared.exchange.Halt.TheVariants as halts
 use Rattle.cc_meaning.specs.declared.travel.LinkEnd.TheVariants as ends
-use Rattle.cc_device.specs.Exchanging.{IsSent, IsHeld, held_of, TakesIn, Awaited}
+use Rattle.cc_device.specs.Exchanging.{IsSent, TakesIn, Awaited}
 
 more-more : (a b : List ℕ) (o : Option (List ℕ)) → more (a ++ b) o ≡ more b (more a o)
 more-more a b None = refl

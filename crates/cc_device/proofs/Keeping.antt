@@ -1,5 +1,5 @@
 -- What a run keeps on its way from pause to pause.
-use Rattle.std.proofs.Common.{◌≡◌, ℕ, zero, suc, ◌+◌, ◌-◌, ◌≤◌, ◌<◌, Bool, true, false, ℤ, List, [], ◌∷◌, ◌++◌, length, Option, Some, None, Result, Ok, Err, refl, sym, ap, ◌∙◌, subst, arith, slice_get, slice_set}
+use Rattle.std.proofs.Common.{◌≡◌, ℕ, zero, suc, ◌+◌, ◌≤◌, ◌<◌, Bool, true, false, ℤ, List, [], ◌∷◌, length, Option, Some, None, Result, Ok, Err, refl, ◌∙◌, arith, slice_get, slice_set}
 use Rattle.cc_meaning.specs.declared.report.StopCause.{StopCause}
 use Rattle.cc_meaning_run.specs.Acts.{less_by}
 use Rattle.cc_meaning_run.specs.Instructions.{line_of}
@@ -11,7 +11,7 @@ use Rattle.cc_machine.specs.declared.progress.Progress.{Progress}
 use Rattle.cc_machine.specs.declared.progress.Came.{Came}
 use Rattle.cc_machine.specs.declared.progress.Pause.{Pause}
 use Rattle.cc_machine.specs.declared.progress.Pause.TheVariants as pauses
-use Rattle.cc_machine.specs.Going.{Stepped, OnWith, Paused, Went, stepped_to, stopped, taking, result_taken, behind, came_back, given, came_here, printed, is_stop, entered, entry_of, acted, stepped, returned, gone_on, goes}
+use Rattle.cc_machine.specs.Going.{Stepped, OnWith, Paused, Went, taking, result_taken, behind, came_back, given, came_here, printed, is_stop, entered, entry_of, acted, stepped, returned, gone_on, goes}
 use Rattle.cc_device.specs.Travelling.{IsLater, Keeps}
 
 less_keeps : (k n left : ℕ) → less_by k n ≡ Some left → left ≤ n

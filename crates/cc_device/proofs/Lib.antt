@@ -4,8 +4,10 @@ pub mod Courses
 pub mod Exchanges
 pub mod Judged
 pub mod Keeping
+pub mod Lasts
 pub mod Offloaded
 pub mod Pauses
+pub mod Prompt
 pub mod Reached
 pub mod Stands
 pub mod Taken

@@ -1,7 +1,5 @@
 -- What a run comes to from pause to pause.
-use Rattle.std.proofs.Common.{◌≡◌, ℕ, zero, suc, ◌+◌, ◌≤◌, ◌<◌, ◌&&◌, not, Bool, true, false, ℤ, List, [], ◌∷◌, length, drop, Option, Some, None, Result, Ok, Err, IfOk, is_some, refl, sym, ap, ◌∙◌, subst, arith, slice_set}
-use Rattle.std.specs.declared.alloc.AllocError.{AllocError}
-use Rattle.cc_meaning.specs.declared.fault.Memory.{Memory}
+use Rattle.std.proofs.Common.{◌≡◌, ℕ, zero, suc, ◌≤◌, ◌&&◌, not, Bool, true, false, ℤ, List, drop, Option, Some, None, Result, Ok, Err, IfOk, refl, sym, ap, ◌∙◌, subst, arith, slice_set}
 use Rattle.cc_meaning.specs.declared.report.StopCause.{StopCause}
 use Rattle.cc_meaning.specs.declared.report.StopCause.TheVariants as cause
 use Rattle.cc_meaning.specs.declared.report.Ending.TheVariants as ending
@@ -10,13 +8,12 @@ use Rattle.cc_meaning_plain.specs.declared.plain.PlainInsn.{PlainInsn}
 use Rattle.cc_meaning_plain.specs.declared.plain.Plain.{Plain}
 use Rattle.cc_meaning_plain.specs.Program.{function_number}
 use Rattle.cc_meaning_device.specs.Received.{Received}
-use Rattle.cc_meaning_device.specs.Straight.{Course}
 use Rattle.cc_machine.specs.declared.progress.Progress.{Progress}
 use Rattle.cc_machine.specs.declared.progress.Came.{Came}
 use Rattle.cc_machine.specs.declared.progress.Pause.{Pause}
 use Rattle.cc_machine.specs.declared.progress.Pause.TheVariants as pauses
-use Rattle.cc_machine.specs.Going.{Stepped, OnWith, Paused, Went, stepped_to, stopped, taking, result_taken, behind, came_back, is_stop, gone_on, goes}
-use Rattle.cc_machine.specs.Running.{begun, stage_ended}
+use Rattle.cc_machine.specs.Going.{Stepped, OnWith, Paused, Went, taking, behind, came_back, is_stop, gone_on, goes}
+use Rattle.cc_machine.specs.Running.{begun}
 use Rattle.cc_device.specs.Travelling.{moves_of, stops_in, course_from, begun_with, begun_course, paused_course, behind_call, IsLater, Keeps}
 use Rattle.cc_device.proofs.Courses.{course_went, moved_is_done, fallen_is_done, goes_comes, back_comes}
 use Rattle.cc_device.proofs.Keeping.{StepsSo, back_keeps, goes_keeps}

@@ -1,33 +1,31 @@
 -- How a device stands behind a call: of the clone, or of its own.
-use Rattle.std.proofs.Common.{◌≡◌, ◌≢◌, ℕ, zero, suc, ◌+◌, ◌-◌, ◌≤◌, ◌<◌, ◌==◌, ◌&&◌, not, cond, Bool, true, false, ℤ, List, [], ◌∷◌, ◌++◌, length, drop, Option, Some, None, Result, Ok, Err, is_some, refl, sym, ap, ◌∙◌, subst, arith, append_assoc, slice_get, slice_set}
+use Rattle.std.proofs.Common.{◌≡◌, ℕ, suc, ◌+◌, ◌==◌, ◌&&◌, not, Bool, true, false, List, [], ◌∷◌, ◌++◌, drop, Option, Some, None, Ok, Err, refl, sym, ap, ◌∙◌, arith, append_assoc, slice_get, slice_set}
 use Rattle.cc_meaning.specs.declared.file.Job.{Job}
 use Rattle.cc_meaning.specs.declared.frame.Frame.{Frame}
 use Rattle.cc_meaning.specs.declared.image.RunImage.{RunImage}
 use Rattle.cc_meaning.specs.declared.image.BackImage.{BackImage}
 use Rattle.cc_meaning.specs.declared.program.Program.{Program}
-use Rattle.cc_meaning.specs.declared.report.StopCause.{StopCause}
 use Rattle.cc_meaning.specs.declared.travel.LinkEnd.{LinkEnd}
 use Rattle.cc_meaning.specs.declared.travel.LinkEnd.TheVariants as ends
 use Rattle.cc_meaning_run.specs.Acts.{less_by}
-use Rattle.cc_meaning_nodes.specs.Frames.{Partial, Whole, front_of, Ending, Rest, Fails, Frames, ends as frames_end, with_frame, frames_of}
+use Rattle.cc_meaning_nodes.specs.Frames.{Frames, with_frame, frames_of}
 use Rattle.cc_meaning_nodes.specs.FrameLaws.{GoesOn, NothingMore, BeginsWithWhole}
 use Rattle.cc_meaning_plain.specs.declared.plain.Plain.{Plain}
-use Rattle.cc_meaning_plain.specs.declared.plain.PlainFunction.{PlainFunction}
 use Rattle.cc_meaning_plain.specs.Program.{function_number, program_of}
 use Rattle.cc_meaning_plain.specs.Text.{value_by, instructions_by}
-use Rattle.cc_meaning_device.specs.Received.{Received, behind_ready, Taken, back_of_frames}
+use Rattle.cc_meaning_device.specs.Received.{Received, behind_ready, back_of_frames}
 use Rattle.cc_meaning_device.specs.Straight.{Came as CourseCame, given_here, called_here, entry_image, value_back, came_back as course_came_back, called_there, called, Course, course_with_line, course_came, course_of, plain_course}
 use Rattle.cc_machine.specs.declared.progress.Progress.{Progress}
 use Rattle.cc_machine.specs.declared.progress.Entry.{Entry}
-use Rattle.cc_machine.specs.declared.progress.Came.{Came}
 use Rattle.cc_machine.specs.declared.progress.Pause.TheVariants as pauses
 use Rattle.cc_machine.specs.Going.{given, came_here}
 use Rattle.cc_link.specs.Links.{Known, Counts, NeverFall, known_sent, known_got}
+use Rattle.cc_link.specs.Honest.{LinkOwes}
 use Rattle.cc_device.specs.declared.contact.Contact.{Contact}
 use Rattle.cc_device.specs.declared.exchange.Halt.TheVariants as halts
-use Rattle.cc_device.specs.Exchanging.{AwaitingEnds}
-use Rattle.cc_device.specs.Judging.{judge_ready, judge_back, AnswersSo, EndsSo, in_sending, in_awaiting, by_frame, run_bytes}
-use Rattle.cc_device.specs.Travelling.{moves_of, hello_bytes, Took, called_alone, opened_first, Fell, not_reached, not_opened, not_called, not_called_first, Reaches, paused_course, behind_call, received_of, GoesSo, TravelsSo, Stood, CallsThere, gives_back, falls_back}
+use Rattle.cc_device.specs.Exchanging.{Span, span, AwaitingEnds}
+use Rattle.cc_device.specs.Judging.{judge_ready, judge_back, EndsSo, in_sending, in_awaiting, by_frame, run_bytes}
+use Rattle.cc_device.specs.Travelling.{moves_of, hello_bytes, Took, called_alone, opened_first, Fell, not_reached, not_opened, not_called, not_called_first, Reaches, paused_course, behind_call, received_of, TravelsSo, Stood}
 use Rattle.cc_device.proofs.Exchanges.{got-got, sent-sent, never_fall}
 use Rattle.cc_device.proofs.Taken.{frames_nil, frames_partial, frames_whole, frames_one, frames_faulty, behind_open, behind_first, behind_nothing, behind_wrong, back_taken, back_not_taken, nothing_taken, none_behind}
 use Rattle.cc_device.proofs.Travels.{snoc_some, StoodSo, travels_on, ends_travel, fell_since}
@@ -71,31 +69,31 @@ module _ (goes_on : GoesOn) (nothing : NothingMore) (whole : BeginsWithWhole) wh
     no_frames got (ends.Refused status) old new a = absurd a
 
     -- behind the frames up to the Ready stands no Back
-    no_back : (sent got : List ℕ) (e : LinkEnd) (old new : Counts) → EndsSo (judge_back p image) (run_bytes image) patience sent got e old new → back_of_frames p image (Some (frames_of got).frames) ≡ None
-    no_back sent got e old new (in_sending front none why) = ap (λ (fs : List Frame). back_of_frames p image (Some fs)) (ap (λ (xs : List ℕ). (frames_of xs).frames) none ∙ ap Frames.frames (frames_nil goes_on nothing whole)) ∙ nothing_taken p image
-    no_back sent got e old new (in_awaiting all why) = ap (λ (fs : List Frame). back_of_frames p image (Some fs)) (no_frames got e old new why) ∙ nothing_taken p image
-    no_back sent got e old new (by_frame frame all stands judged) =
+    no_back : (sent got : List ℕ) (e : LinkEnd) (c : Span) → EndsSo (judge_back p image) (run_bytes image) patience sent got e c → back_of_frames p image (Some (frames_of got).frames) ≡ None
+    no_back sent got e c (in_sending front none why taken) = ap (λ (fs : List Frame). back_of_frames p image (Some fs)) (ap (λ (xs : List ℕ). (frames_of xs).frames) none ∙ ap Frames.frames (frames_nil goes_on nothing whole)) ∙ nothing_taken p image
+    no_back sent got e c (in_awaiting all why given) = ap (λ (fs : List Frame). back_of_frames p image (Some fs)) (no_frames got e c.old c.new why) ∙ nothing_taken p image
+    no_back sent got e c (by_frame frame all stands judged) =
         ap (λ (fs : List Frame). back_of_frames p image (Some fs)) (ap Frames.frames (frames_one goes_on nothing whole got frame stands)) ∙ back_not_taken p image frame [] e judged
 
-    no_ready : (sent got : List ℕ) (e : LinkEnd) (old new : Counts) → EndsSo judge_ready hello patience sent got e old new → behind_ready (received_of (reaching false merged) images (frames_of got).frames) ≡ None
-    no_ready sent got e old new (in_sending front none why) =
+    no_ready : (sent got : List ℕ) (e : LinkEnd) (c : Span) → EndsSo judge_ready hello patience sent got e c → behind_ready (received_of (reaching false merged) images (frames_of got).frames) ≡ None
+    no_ready sent got e c (in_sending front none why taken) =
         behind_nothing (received_of (reaching false merged) images (frames_of got).frames) refl (ap (λ (xs : List ℕ). (frames_of xs).frames) none ∙ ap Frames.frames (frames_nil goes_on nothing whole))
-    no_ready sent got e old new (in_awaiting all why) = behind_nothing (received_of (reaching false merged) images (frames_of got).frames) refl (no_frames got e old new why)
-    no_ready sent got e old new (by_frame frame all stands judged) =
+    no_ready sent got e c (in_awaiting all why given) = behind_nothing (received_of (reaching false merged) images (frames_of got).frames) refl (no_frames got e c.old c.new why)
+    no_ready sent got e c (by_frame frame all stands judged) =
         behind_wrong (received_of (reaching false merged) images (frames_of got).frames) frame [] e refl (ap Frames.frames (frames_one goes_on nothing whole got frame stands)) judged
 
-    fell_not_taken : (b : Bool) (sent got : List ℕ) (e : LinkEnd) (old new : Counts) → Fell p hello patience image sent got e old new b →
+    fell_not_taken : (b : Bool) (sent got : List ℕ) (e : LinkEnd) (c : Span) → Fell p hello patience image sent got e c b →
         back_of_frames p image (behind_ready (received_of (reaching b merged) images (frames_of got).frames)) ≡ None
-    fell_not_taken true sent got e old new (not_called x) =
-        ap (back_of_frames p image) (behind_open (received_of (reaching true merged) images (frames_of got).frames) refl) ∙ no_back sent got e old new x
-    fell_not_taken false sent got e old new (not_reached is none nothing_got rose) =
+    fell_not_taken true sent got e c (not_called x) =
+        ap (back_of_frames p image) (behind_open (received_of (reaching true merged) images (frames_of got).frames) refl) ∙ no_back sent got e c x
+    fell_not_taken false sent got e c (not_reached is none nothing_got rose up) =
         ap (back_of_frames p image) (behind_nothing (received_of (reaching false merged) images (frames_of got).frames) refl (ap (λ (xs : List ℕ). (frames_of xs).frames) nothing_got ∙ ap Frames.frames (frames_nil goes_on nothing whole)))
         ∙ none_behind p image
-    fell_not_taken false sent got e old new (not_opened x) = ap (back_of_frames p image) (no_ready sent got e old new x) ∙ none_behind p image
-    fell_not_taken false sent got e old new (not_called_first ready first sent2 got2 sent_is got_is stands judged x) =
+    fell_not_taken false sent got e c (not_opened x) = ap (back_of_frames p image) (no_ready sent got e c x) ∙ none_behind p image
+    fell_not_taken false sent got e c (not_called_first ready first sent2 got2 sent_is got_is stands judged x) =
         let all : frames_of got ≡ with_frame ready (frames_of got2) = ap frames_of got_is ∙ frames_whole goes_on nothing whole first got2 ready stands in
         ap (back_of_frames p image) (behind_first (received_of (reaching false merged) images (frames_of got).frames) ready (frames_of got2).frames refl (ap Frames.frames all) judged)
-        ∙ no_back sent2 got2 e old new x
+        ∙ no_back sent2 got2 e c x
 
   -- ---- a call
 
@@ -149,16 +147,16 @@ module _ (goes_on : GoesOn) (nothing : NothingMore) (whole : BeginsWithWhole) wh
           ∙ ap (course_came_back (slice_get plain.functions entry.function) entry.argument x t) (took_taken (program_of plain) hello patience x merged images b sent got more back took)
           ∙ ap (λ (n : ℕ). record { value = value_back back.ending; instructions = back.instructions; words = back.words; received = record { opened = true; frames = (frames_of more).frames; images = images ++ x ∷ []; merged = n; fallen = false } }) one)
 
-      fell_course : (b : Bool) (sent got : List ℕ) (e : LinkEnd) (old new : Counts) →
-          Fell (program_of plain) hello patience (entry_image plain entry.function entry.argument q.instructions q.words) sent got e old new b →
+      fell_course : (b : Bool) (sent got : List ℕ) (e : LinkEnd) (c : Span) →
+          Fell (program_of plain) hello patience (entry_image plain entry.function entry.argument q.instructions q.words) sent got e c b →
           paused_course plain (moves_of plain moved) (pauses.AtEntry entry) q (received_of (reaching b merged) images (frames_of got).frames)
           ≡ behind_call plain (moves_of plain moved) entry.to (came_here plain.functions entry.function entry.argument q.instructions q.words) q
           (received_of (fallen_by b merged e) (images ++ entry_image plain entry.function entry.argument q.instructions q.words ∷ []) (frames_of got).frames)
-      fell_course b sent got e old new fell =
+      fell_course b sent got e c fell =
           let t = received_of (reaching b merged) images (frames_of got).frames in
           let x = entry_image plain entry.function entry.argument q.instructions q.words in
           ap behind_came (called_moved is t refl
-          ∙ ap (course_came_back (slice_get plain.functions entry.function) entry.argument x t) (fell_not_taken (program_of plain) hello patience x merged images b sent got e old new fell)
+          ∙ ap (course_came_back (slice_get plain.functions entry.function) entry.argument x t) (fell_not_taken (program_of plain) hello patience x merged images b sent got e c fell)
           ∙ here_is (received_of (fallen_by b merged e) (images ++ x ∷ []) (frames_of got).frames))
 
     -- ---- how the device stands then
@@ -166,16 +164,16 @@ module _ (goes_on : GoesOn) (nothing : NothingMore) (whole : BeginsWithWhole) wh
     both : (a b c d : List ℕ) (k : Known) → known_got d (known_sent c (known_got b (known_sent a k))) ≡ known_got (b ++ d) (known_sent (a ++ c) k)
     both a b c d k = ap (λ (j : Known). known_got d (known_got b j)) (sym (sent-sent a c k)) ∙ sym (got-got b d (known_sent (a ++ c) k))
 
-    so_stood : (b : Bool) (merged : ℕ) (sent got : List ℕ) (images : List RunImage) (old new : Counts) →
-        TravelsSo (program_of plain) (hello_bytes job) job.patience (reaching b merged) sent got images old new → StoodSo goes_on nothing whole (program_of plain) (hello_bytes job) job.patience old new b sent got images
-    so_stood false merged sent got images old new t = t
-    so_stood true merged sent got images old new t = t
+    so_stood : (b : Bool) (merged : ℕ) (sent got : List ℕ) (images : List RunImage) (c d : Span) →
+        TravelsSo (program_of plain) (hello_bytes job) job.patience (reaching b merged) sent got images c → StoodSo goes_on nothing whole (program_of plain) (hello_bytes job) job.patience d b sent got images
+    so_stood false merged sent got images c d t = t
+    so_stood true merged sent got images c d t = t
 
-    pub stood_by_back : (b : Bool) (merged : ℕ) (k k1 k2 : Known) (c c1 c2 : Counts) (back : BackImage) → moved ≡ Some entry.function → NeverFall c1 c2 →
-        Stood plain moved job (reaching b merged) (paused_course plain (moves_of plain moved) (pauses.AtEntry entry) q) k c k1 c1 →
-        Reaches (program_of plain) (hello_bytes job) job.patience (entry_image plain entry.function entry.argument q.instructions q.words) b k1 c1 (Ok back) k2 c2 →
-        Stood plain moved job (reaching true (merged + 1)) (behind_call plain (moves_of plain moved) entry.to (record { value = value_back back.ending; instructions = back.instructions; words = back.words }) q) k c k2 c2
-    stood_by_back b merged k k1 k2 c c1 c2 back is n s r =
+    pub stood_by_back : (b : Bool) (merged : ℕ) (k k1 k2 : Known) (c c1 c2 : Counts) (first still now : Type 0) (back : BackImage) → moved ≡ Some entry.function → NeverFall c1 c2 → (still → now) →
+        Stood plain moved job (reaching b merged) (paused_course plain (moves_of plain moved) (pauses.AtEntry entry) q) k c first k1 c1 still →
+        Reaches (program_of plain) (hello_bytes job) job.patience (entry_image plain entry.function entry.argument q.instructions q.words) b k1 c1 still (Ok back) k2 c2 →
+        Stood plain moved job (reaching true (merged + 1)) (behind_call plain (moves_of plain moved) entry.to (record { value = value_back back.ending; instructions = back.instructions; words = back.words }) q) k c first k2 c2 now
+    stood_by_back b merged k k1 k2 c c1 c2 first still now back is n stays s r =
         let x = entry_image plain entry.function entry.argument q.instructions q.words in
         record {
           sent = s.sent ++ r.sent;
@@ -183,17 +181,19 @@ module _ (goes_on : GoesOn) (nothing : NothingMore) (whole : BeginsWithWhole) wh
           images = s.images ++ x ∷ [];
           known = r.known ∙ ap (λ (j : Known). known_got r.got (known_sent r.sent j)) s.known ∙ both s.sent s.got r.sent r.got k;
           counts = never_fall c c1 c2 s.counts n;
-          travels = travels_on goes_on nothing whole (program_of plain) (hello_bytes job) job.patience c c2 b s.sent s.got r.sent r.got s.images x back (so_stood b merged s.sent s.got s.images c c1 s.travels) r.came;
+          stays = λ reaches p. stays (s.stays refl p);
+          travels = travels_on goes_on nothing whole (program_of plain) (hello_bytes job) job.patience (span c c2 first k2) b s.sent s.got r.sent r.got s.images x back
+              (so_stood b merged s.sent s.got s.images (span c c1 first k1) (span c c2 first k2) s.travels) r.came;
           course = λ more.
               ap (λ (bytes : List ℕ). plain_course plain (moves_of plain moved) job.limits (frames_of bytes).frames) (append_assoc s.got r.got more)
               ∙ s.course (r.got ++ more) ∙ took_course is (hello_bytes job) job.patience merged s.images b r.sent r.got more back r.came;
         }
 
-    pub stood_by_fall : (b : Bool) (merged : ℕ) (k k1 k2 : Known) (c c1 c2 : Counts) (e : LinkEnd) → moved ≡ Some entry.function → NeverFall c1 c2 →
-        Stood plain moved job (reaching b merged) (paused_course plain (moves_of plain moved) (pauses.AtEntry entry) q) k c k1 c1 →
-        Reaches (program_of plain) (hello_bytes job) job.patience (entry_image plain entry.function entry.argument q.instructions q.words) b k1 c1 (Err (halts.End e)) k2 c2 →
-        Stood plain moved job (fallen_by b merged e) (behind_call plain (moves_of plain moved) entry.to (came_here plain.functions entry.function entry.argument q.instructions q.words) q) k c k2 c2
-    stood_by_fall b merged k k1 k2 c c1 c2 e is n s r =
+    pub stood_by_fall : (b : Bool) (merged : ℕ) (k k1 k2 : Known) (c c1 c2 : Counts) (first still now : Type 0) (e : LinkEnd) → moved ≡ Some entry.function → NeverFall c1 c2 →
+        Stood plain moved job (reaching b merged) (paused_course plain (moves_of plain moved) (pauses.AtEntry entry) q) k c first k1 c1 still →
+        Reaches (program_of plain) (hello_bytes job) job.patience (entry_image plain entry.function entry.argument q.instructions q.words) b k1 c1 still (Err (halts.End e)) k2 c2 →
+        Stood plain moved job (fallen_by b merged e) (behind_call plain (moves_of plain moved) entry.to (came_here plain.functions entry.function entry.argument q.instructions q.words) q) k c first k2 c2 now
+    stood_by_fall b merged k k1 k2 c c1 c2 first still now e is n s r =
         let x = entry_image plain entry.function entry.argument q.instructions q.words in
         record {
           sent = s.sent ++ r.sent;
@@ -201,10 +201,12 @@ module _ (goes_on : GoesOn) (nothing : NothingMore) (whole : BeginsWithWhole) wh
           images = s.images ++ x ∷ [];
           known = r.known ∙ ap (λ (j : Known). known_got r.got (known_sent r.sent j)) s.known ∙ both s.sent s.got r.sent r.got k;
           counts = never_fall c c1 c2 s.counts n;
+          stays = λ reaches. absurd cc;
           travels = (
             snoc_some s.images x,
-            ends_travel goes_on nothing whole (program_of plain) (hello_bytes job) job.patience c c2 b s.sent s.got r.sent r.got s.images x e (so_stood b merged s.sent s.got s.images c c1 s.travels)
-                (fell_since (program_of plain) (hello_bytes job) job.patience x r.sent r.got e c c1 c2 b s.counts r.came),
+            ends_travel goes_on nothing whole (program_of plain) (hello_bytes job) job.patience (span c c2 first k2) b s.sent s.got r.sent r.got s.images x e
+                (so_stood b merged s.sent s.got s.images (span c c1 first k1) (span c c2 first k2) s.travels)
+                (fell_since (program_of plain) (hello_bytes job) job.patience x r.sent r.got e c c1 c2 first still (LinkOwes k2) b s.counts (s.stays refl) r.came),
           );
-          course = ((frames_of r.got).frames, s.course r.got ∙ fell_course is (hello_bytes job) job.patience merged s.images b r.sent r.got e c1 c2 r.came);
+          course = ((frames_of r.got).frames, s.course r.got ∙ fell_course is (hello_bytes job) job.patience merged s.images b r.sent r.got e (span c1 c2 still k2) r.came);
         }

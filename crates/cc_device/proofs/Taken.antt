@@ -1,5 +1,5 @@
 -- What frames that were got for a call of the clone mean for the run over received frames.
-use Rattle.std.proofs.Common.{◌≡◌, ◌≢◌, ℕ, zero, suc, ◌+◌, ◌-◌, ◌≤◌, ◌<◌, ◌==◌, cond, Bool, true, false, List, [], ◌∷◌, ◌++◌, length, drop, Option, Some, None, Result, Ok, Err, refl, sym, ap, ◌∙◌, subst, arith, append_assoc}
+use Rattle.std.proofs.Common.{◌≡◌, ℕ, ◌-◌, ◌==◌, cond, Bool, true, false, List, [], ◌∷◌, ◌++◌, length, Some, None, Result, Ok, Err, refl, sym, ap, ◌∙◌, arith}
 use Rattle.std.proofs.lemmas.List.{append-nil}
 use Rattle.std.proofs.Math.ListN.{drop_of_length-le}
 use Rattle.cc_meaning.specs.declared.frame.Frame.{Frame}
@@ -10,10 +10,10 @@ use Rattle.cc_meaning.specs.declared.image.BackImage.{BackImage}
 use Rattle.cc_meaning.specs.declared.program.Program.{Program}
 use Rattle.cc_meaning.specs.declared.travel.LinkEnd.{LinkEnd}
 use Rattle.cc_meaning_images.specs.Reading.{read_back}
-use Rattle.cc_meaning_nodes.specs.Frames.{Front, Partial, Whole, Faulty, front_of, head_of, Ending, Rest, Fails, Frames, ends, with_frame, with_frames, frames_by, frames_of, frames_after, frames_from, IsPartial}
+use Rattle.cc_meaning_nodes.specs.Frames.{Front, Partial, Whole, Faulty, front_of, head_of, Ending, Rest, Fails, ends, with_frame, with_frames, frames_by, frames_of, frames_after, frames_from}
 use Rattle.cc_meaning_nodes.specs.Clone.{back_kind}
 use Rattle.cc_meaning_nodes.specs.FrameLaws.{GoesOn, NothingMore, BeginsWithWhole}
-use Rattle.cc_meaning_device.specs.Received.{Received, is_ready, behind_ready, Taken, read_as, back_of_frames}
+use Rattle.cc_meaning_device.specs.Received.{Received, is_ready, behind_ready, read_as, back_of_frames}
 use Rattle.cc_device.specs.Judging.{wrong_frame, judge_ready, judge_image, judge_back}
 
 -- ---- frames of what was got

@@ -1,5 +1,5 @@
 -- What was sent and got behind a call of the clone.
-use Rattle.std.proofs.Common.{◌≡◌, ◌≢◌, ℕ, zero, suc, ◌+◌, ◌≤◌, ◌<◌, cond, Bool, true, false, List, [], ◌∷◌, ◌++◌, length, Option, Some, None, Result, Ok, Err, refl, sym, ap, ◌∙◌, subst, arith, append_assoc}
+use Rattle.std.proofs.Common.{◌≡◌, ◌≢◌, ℕ, suc, cond, Bool, true, false, List, [], ◌∷◌, ◌++◌, length, Ok, Err, refl, sym, ap, ◌∙◌, arith, append_assoc}
 use Rattle.std.specs.List.{flat_map}
 use Rattle.std.proofs.lemmas.List.{append-nil}
 use Rattle.cc_meaning.specs.declared.frame.Frame.{Frame}
@@ -8,17 +8,16 @@ use Rattle.cc_meaning.specs.declared.image.BackImage.{BackImage}
 use Rattle.cc_meaning.specs.declared.program.Program.{Program}
 use Rattle.cc_meaning.specs.declared.travel.LinkEnd.{LinkEnd}
 use Rattle.cc_meaning.specs.declared.travel.LinkEnd.TheVariants as ends
-use Rattle.cc_meaning_nodes.specs.Frames.{Partial, Whole, front_of, Ending, Rest, Fails, Frames, ends as frames_end, with_frame, with_frames, frames_of}
+use Rattle.cc_meaning_nodes.specs.Frames.{Whole, front_of, Ending, Rest, Fails, Frames, ends as frames_end, with_frames, frames_of}
 use Rattle.cc_meaning_nodes.specs.Talk.{IsPrefixOf}
 use Rattle.cc_meaning_nodes.specs.FrameLaws.{GoesOn, NothingMore, BeginsWithWhole}
-use Rattle.cc_meaning_device.specs.Received.{is_ready}
 use Rattle.cc_link.specs.Links.{Counts, NeverFall}
-use Rattle.cc_device.specs.Exchanging.{AwaitingEnds}
+use Rattle.cc_device.specs.Exchanging.{Span, AwaitingEnds}
 use Rattle.cc_device.specs.Judging.{judge_ready, judge_back, AnswersSo, EndsSo, in_sending, in_awaiting, by_frame, run_bytes}
 use Rattle.cc_device.specs.Travelling.{Took, called_alone, opened_first, Fell, not_reached, not_opened, not_called, not_called_first, begins_ready, due, JudgedSo, AwaitingEnded, EndsTravel, not_dialed as never_dialed, in_sending as ends_in_sending, in_awaiting as ends_in_awaiting, by_frame as ends_by_frame, TravelsOn, StaysHome}
 use Rattle.cc_device.proofs.Exchanges.{rose_since}
 use Rattle.cc_device.proofs.Judged.{ends_since}
-use Rattle.cc_device.proofs.Taken.{frames_nil, frames_partial, frames_whole, frames_one, frames_more, frames_faulty, ready_is, ready_isnt}
+use Rattle.cc_device.proofs.Taken.{frames_nil, frames_partial, frames_one, frames_more, frames_faulty, ready_is, ready_isnt}
 
 -- ---- lists
 
@@ -59,7 +58,7 @@ pub record IsOpen (hello sent got : List ℕ) (images : List RunImage) : Type 0 
   pub all : sent ≡ hello ++ flat_map run_bytes images
   pub many : length (frames_of got).frames ≡ suc (length images)
 
-module _ (goes_on : GoesOn) (nothing : NothingMore) (whole : BeginsWithWhole) (p : Program) (hello : List ℕ) (patience : ℕ) (old new : Counts) where
+module _ (goes_on : GoesOn) (nothing : NothingMore) (whole : BeginsWithWhole) (p : Program) (hello : List ℕ) (patience : ℕ) (c : Span) where
   more : (x y : List ℕ) → (frames_of x).ending ≡ Rest [] → frames_of (x ++ y) ≡ with_frames (frames_of x).frames (frames_of y)
   more x y e = frames_more goes_on nothing whole x y e
 
@@ -93,7 +92,7 @@ module _ (goes_on : GoesOn) (nothing : NothingMore) (whole : BeginsWithWhole) (p
           many = ap (λ (fs : Frames). length fs.frames) (frames_then _ behind) ∙ length_snoc (frames_of got).frames a.frame ∙ ap suc o.many ∙ sym (ap suc (length_snoc images image));
         }
 
-    awaiting_ended : (e : LinkEnd) → AwaitingEnds got1 patience e old new → AwaitingEnded (got ++ got1) patience e old new × ((behind : Ending) × (frames_of got1 ≡ frames_end behind))
+    awaiting_ended : (e : LinkEnd) → AwaitingEnds got1 patience e c.old c.new → AwaitingEnded (got ++ got1) patience e c.old c.new × ((behind : Ending) × (frames_of got1 ≡ frames_end behind))
     awaiting_ended ends.DialFailed a = absurd a
     awaiting_ended ends.Failed a = let f = frames_partial goes_on nothing whole got1 a.0 in (((got1, ap Frames.ending (frames_then _ f)), a.1), (Rest got1, f))
     awaiting_ended ends.Ended a = let f = frames_partial goes_on nothing whole got1 a.0 in (((got1, ap Frames.ending (frames_then _ f)), a.1), (Rest got1, f))
@@ -107,13 +106,16 @@ module _ (goes_on : GoesOn) (nothing : NothingMore) (whole : BeginsWithWhole) (p
     judged_behind [] frame e many j = absurd cc
     judged_behind (first ∷ rest) frame e many j = (images, image, refl, omega (arith, many), j)
 
-    pub ends_behind : (e : LinkEnd) → EndsSo (judge_back p image) (run_bytes image) patience sent1 got1 e old new → EndsTravel p hello patience (sent ++ sent1) (got ++ got1) (images ++ image ∷ []) e old new
-    ends_behind e (in_sending front none why) =
+    pub ends_behind : (e : LinkEnd) → EndsSo (judge_back p image) (run_bytes image) patience sent1 got1 e c → EndsTravel p hello patience (sent ++ sent1) (got ++ got1) (images ++ image ∷ []) e c
+    ends_behind e (in_sending front none why taken) =
         let behind = ap frames_of none ∙ frames_nil goes_on nothing whole in
-        ends_in_sending (prefix_of (sent ++ sent1) (sent ++ run_bytes image) _ (prefix_behind sent sent1 (run_bytes image) front) (sym (due_then _ behind))) (ap Frames.ending (frames_then _ behind)) why
-    ends_behind e (in_awaiting all why) =
+        ends_in_sending (prefix_of (sent ++ sent1) (sent ++ run_bytes image) _ (prefix_behind sent sent1 (run_bytes image) front) (sym (due_then _ behind))) (ap Frames.ending (frames_then _ behind)) why taken
+    ends_behind e (in_awaiting all why given) =
         let a = awaiting_ended e why in
-        ends_in_awaiting (ap (λ (xs : List ℕ). sent ++ xs) all ∙ sym (due_then _ a.1.1)) a.0
+        let many : length (frames_of (got ++ got1)).frames ≡ length ((frames_of got).frames ++ []) = ap (λ (fs : Frames). length fs.frames) (frames_then _ a.1.1) in
+        let none : length ((frames_of got).frames ++ []) ≡ length (frames_of got).frames = ap (λ (fs : List Frame). length fs) (append-nil (frames_of got).frames) in
+        let longer = length_snoc images image in
+        ends_in_awaiting (ap (λ (xs : List ℕ). sent ++ xs) all ∙ sym (due_then _ a.1.1)) (omega (arith, many, none, o.many, longer)) a.0 given
     ends_behind e (by_frame frame all stands judged) =
         let behind = one got1 frame stands in
         ends_by_frame (frames_of got).frames frame (ap (λ (xs : List ℕ). sent ++ xs) all ∙ sym (due_then _ behind)) (ap Frames.ending (frames_then _ behind)) (ap Frames.frames (frames_then _ behind))
@@ -131,7 +133,7 @@ module _ (goes_on : GoesOn) (nothing : NothingMore) (whole : BeginsWithWhole) (p
         many = ap (λ (fs : Frames). length fs.frames) frames;
       }
 
-  closed_ended : (got : List ℕ) (e : LinkEnd) → AwaitingEnds got patience e old new → AwaitingEnded got patience e old new × ((behind : Ending) × (frames_of got ≡ frames_end behind))
+  closed_ended : (got : List ℕ) (e : LinkEnd) → AwaitingEnds got patience e c.old c.new → AwaitingEnded got patience e c.old c.new × ((behind : Ending) × (frames_of got ≡ frames_end behind))
   closed_ended got ends.DialFailed a = absurd a
   closed_ended got ends.Failed a = let f = frames_partial goes_on nothing whole got a.0 in (((got, ap Frames.ending f), a.1), (Rest got, f))
   closed_ended got ends.Ended a = let f = frames_partial goes_on nothing whole got a.0 in (((got, ap Frames.ending f), a.1), (Rest got, f))
@@ -141,13 +143,14 @@ module _ (goes_on : GoesOn) (nothing : NothingMore) (whole : BeginsWithWhole) (p
   closed_ended got (ends.Unfit fault) a = absurd a
   closed_ended got (ends.Refused status) a = absurd a
 
-  unopened_ends : (sent got : List ℕ) (images : List RunImage) (e : LinkEnd) → EndsSo judge_ready hello patience sent got e old new → EndsTravel p hello patience sent got images e old new
-  unopened_ends sent got images e (in_sending front none why) =
+  unopened_ends : (sent got : List ℕ) (images : List RunImage) (e : LinkEnd) → EndsSo judge_ready hello patience sent got e c → EndsTravel p hello patience sent got images e c
+  unopened_ends sent got images e (in_sending front none why taken) =
       let frames = ap frames_of none ∙ frames_nil goes_on nothing whole in
-      ends_in_sending (prefix_of sent hello _ front (sym (due_closed hello (frames_of got).frames images (ap (λ (fs : Frames). begins_ready fs.frames) frames)))) (ap Frames.ending frames) why
-  unopened_ends sent got images e (in_awaiting all why) =
+      ends_in_sending (prefix_of sent hello _ front (sym (due_closed hello (frames_of got).frames images (ap (λ (fs : Frames). begins_ready fs.frames) frames)))) (ap Frames.ending frames) why taken
+  unopened_ends sent got images e (in_awaiting all why given) =
       let a = closed_ended got e why in
-      ends_in_awaiting (all ∙ sym (due_closed hello (frames_of got).frames images (ap (λ (fs : Frames). begins_ready fs.frames) a.1.1))) a.0
+      ends_in_awaiting (all ∙ sym (due_closed hello (frames_of got).frames images (ap (λ (fs : Frames). begins_ready fs.frames) a.1.1)))
+      (let none : length (frames_of got).frames ≡ 0 = ap (λ (fs : Frames). length fs.frames) a.1.1 in omega (arith, none)) a.0 given
   unopened_ends sent got images e (by_frame frame all stands judged) =
       let frames = one got frame stands in
       ends_by_frame [] frame (all ∙ sym (due_closed hello (frames_of got).frames images (ap (λ (fs : Frames). begins_ready fs.frames) frames ∙ ready_isnt frame e judged))) (ap Frames.ending frames) (ap Frames.frames frames) judged
@@ -168,18 +171,20 @@ module _ (goes_on : GoesOn) (nothing : NothingMore) (whole : BeginsWithWhole) (p
   travels_on false sent got sent1 got1 images image back s (opened_first ready first sent2 got2 sent_is got_is stands judged a) =
       rw (s.silent, s.deaf, s.none, sent_is, got_is) (goes_behind hello first sent2 got2 [] image (opened ready first stands judged) back a)
 
-  pub ends_travel : (is_open : Bool) (sent got sent1 got1 : List ℕ) (images : List RunImage) (image : RunImage) (e : LinkEnd) → StoodSo is_open sent got images → Fell p hello patience image sent1 got1 e old new is_open →
-      EndsTravel p hello patience (sent ++ sent1) (got ++ got1) (images ++ image ∷ []) e old new
+  pub ends_travel : (is_open : Bool) (sent got sent1 got1 : List ℕ) (images : List RunImage) (image : RunImage) (e : LinkEnd) → StoodSo is_open sent got images → Fell p hello patience image sent1 got1 e c is_open →
+      EndsTravel p hello patience (sent ++ sent1) (got ++ got1) (images ++ image ∷ []) e c
   ends_travel true sent got sent1 got1 images image e s (not_called x) = ends_behind sent got sent1 got1 images image (open_of sent got images s) e x
-  ends_travel false sent got sent1 got1 images image e s (not_reached is none nothing_got rose) = rw (s.silent, s.deaf) (never_dialed is none nothing_got rose)
+  ends_travel false sent got sent1 got1 images image e s (not_reached is none nothing_got rose up) = rw (s.silent, s.deaf) (never_dialed is none nothing_got rose up)
   ends_travel false sent got sent1 got1 images image e s (not_opened x) = rw (s.silent, s.deaf) (unopened_ends sent1 got1 (images ++ image ∷ []) e x)
   ends_travel false sent got sent1 got1 images image e s (not_called_first ready first sent2 got2 sent_is got_is stands judged x) =
       rw (s.silent, s.deaf, s.none, sent_is, got_is) (ends_behind hello first sent2 got2 [] image (opened ready first stands judged) e x)
 
 -- ---- since before
 
-pub fell_since : (p : Program) (hello : List ℕ) (patience : ℕ) (image : RunImage) (sent got : List ℕ) (e : LinkEnd) (old mid new : Counts) (is_open : Bool) → NeverFall old mid → Fell p hello patience image sent got e mid new is_open → Fell p hello patience image sent got e old new is_open
-fell_since p hello patience image sent got e old mid new false n (not_reached is none nothing rose) = not_reached is none nothing (rose_since _ _ _ n.faults rose)
-fell_since p hello patience image sent got e old mid new false n (not_opened x) = not_opened (ends_since judge_ready hello patience sent got e old mid new n x)
-fell_since p hello patience image sent got e old mid new true n (not_called x) = not_called (ends_since (judge_back p image) (run_bytes image) patience sent got e old mid new n x)
-fell_since p hello patience image sent got e old mid new false n (not_called_first ready first sent2 got2 a b c d x) = not_called_first ready first sent2 got2 a b c d (ends_since (judge_back p image) (run_bytes image) patience sent2 got2 e old mid new n x)
+pub fell_since : (p : Program) (hello : List ℕ) (patience : ℕ) (image : RunImage) (sent got : List ℕ) (e : LinkEnd) (old mid new : Counts) (first still owes : Type 0) (is_open : Bool) → NeverFall old mid → (first → still) →
+    Fell p hello patience image sent got e (record { old = mid; new = new; prompt = still; owes = owes }) is_open → Fell p hello patience image sent got e (record { old = old; new = new; prompt = first; owes = owes }) is_open
+fell_since p hello patience image sent got e old mid new first still owes false n stays (not_reached is none nothing rose up) = not_reached is none nothing (rose_since _ _ _ n.faults rose) (λ p. up (stays p))
+fell_since p hello patience image sent got e old mid new first still owes false n stays (not_opened x) = not_opened (ends_since judge_ready hello patience sent got e old mid new first still owes n stays x)
+fell_since p hello patience image sent got e old mid new first still owes true n stays (not_called x) = not_called (ends_since (judge_back p image) (run_bytes image) patience sent got e old mid new first still owes n stays x)
+fell_since p hello patience image sent got e old mid new first still owes false n stays (not_called_first ready first_bytes sent2 got2 a b c d x) =
+    not_called_first ready first_bytes sent2 got2 a b c d (ends_since (judge_back p image) (run_bytes image) patience sent2 got2 e old mid new first still owes n stays x)

@@ -1,14 +1,29 @@
 -- What sending bytes over a link and awaiting a frame come to.
-use Rattle.std.specs.Prelude.{◌≡◌, ◌≢◌, ℕ, List, [], ◌++◌, length, Option, Some, None, Result, Ok, Err}
+use Rattle.std.specs.Prelude.{◌≡◌, ◌≢◌, ◌⊎◌, ℕ, List, [], ◌++◌, length, Option, Some, None, Result, Ok, Err}
 use Rattle.cc_meaning.specs.declared.frame.Frame.{Frame}
 use Rattle.cc_meaning.specs.declared.fault.FrameFault.TheVariants as faults
 use Rattle.cc_meaning.specs.declared.travel.LinkEnd.{LinkEnd}
 use Rattle.cc_meaning.specs.declared.travel.LinkEnd.TheVariants as ends
 use Rattle.cc_meaning_nodes.specs.Frames.{Partial, Whole, Faulty, front_of, Ending, Rest, Fails}
 use Rattle.cc_outside.specs.Counting.{Rose, RoseBy}
-use Rattle.cc_link.specs.Links.{Known, Counts, known_sent, known_got}
+use Rattle.cc_link.specs.Links.{Known, Counts, Answer, to_dial, to_send, to_receive, known_sent, known_got}
+use Rattle.cc_link.specs.Honest.{LinkOwes}
+use Rattle.cc_link.specs.declared.link.Dialed.TheVariants as dials
+use Rattle.cc_link.specs.declared.link.Sent.TheVariants as sends
+use Rattle.cc_link.specs.declared.link.Got.TheVariants as gets
 use Rattle.cc_device.specs.declared.exchange.Halt.{Halt}
 use Rattle.cc_device.specs.declared.exchange.Halt.TheVariants as halts
+
+-- what is told of a link over calls on it: its counts before and behind them, whether it was prompt before, and whether it owes bytes behind them
+pub record Span : Type 1 where
+  pub old : Counts
+  pub new : Counts
+  pub prompt : Type 0
+  pub owes : Type 0
+
+-- over calls behind which this is known of the link
+abbrev pub span : (old new : Counts) → (prompt : Type 0) → Known → Span
+span old new prompt k = record { old = old; new = new; prompt = prompt; owes = LinkOwes k }
 
 -- ---- sending
 
@@ -38,6 +53,12 @@ abbrev pub SendsAll : Known → Counts → List ℕ → ℕ → Result Unit Halt
 SendsAll k old bytes patience (Ok u) k' new = k' ≡ known_sent bytes k
 SendsAll k old bytes patience (Err halt) k' new = ((rest : List ℕ) × IsSent k bytes rest k') × SendingHalts patience halt old new
 
+-- a prompt link takes all of the bytes, or there is no memory
+abbrev pub IsTaken : Result (Unit {0}) Halt → Type 0
+IsTaken (Ok u) = Unit {0}
+IsTaken (Err halts.Memory) = Unit {0}
+IsTaken (Err (halts.End e)) = ⊥
+
 -- ---- awaiting
 
 -- why no frame came: so many calls in one awaiting gave nothing
@@ -61,6 +82,43 @@ pub record Awaits (k : Known) (old : Counts) (patience : ℕ) (r : Result Frame 
   pub bytes : List ℕ
   pub known : k' ≡ known_got bytes k
   pub awaited : Awaited bytes patience r old new
+
+-- bytes came that are no frame
+abbrev pub IsFault : LinkEnd → Type 0
+IsFault (ends.BadFrame fault) = Unit {0}
+IsFault e = ⊥
+
+-- a prompt link that owes bytes gives some: so a frame comes, or bytes that are none, or there is no memory
+abbrev pub IsGiven : Result Frame Halt → Type 0
+IsGiven (Ok frame) = Unit {0}
+IsGiven (Err halts.Memory) = Unit {0}
+IsGiven (Err (halts.End e)) = IsFault e
+
+-- ---- the last call
+
+-- The last call on a link ended it so: it didn't make the link, failed, gave the end, or moved nothing; or it gave bytes, which are no frame or the last of a frame
+-- that wasn't awaited.
+abbrev pub EndedBy : (last : Answer → Type 0) → LinkEnd → Type 0
+EndedBy last ends.DialFailed = last (to_dial dials.Failed)
+EndedBy last ends.Failed = last (to_send sends.Failed) ⊎ last (to_receive gets.Failed)
+EndedBy last ends.Ended = last (to_receive gets.End)
+EndedBy last (ends.Waited n) = last (to_send sends.NotYet) ⊎ last (to_receive gets.NotYet)
+EndedBy last e = (bytes : List ℕ) × last (to_receive (gets.Bytes bytes))
+
+-- so it halted; where memory was wanting, nothing is said
+abbrev pub LastHalts : (last : Answer → Type 0) → Halt → Type 0
+LastHalts last halts.Memory = Unit {0}
+LastHalts last (halts.End e) = EndedBy last e
+
+-- all bytes were sent and each call went on, or the last call ended it
+abbrev pub LastSent : (going : Type 0) → (last : Answer → Type 0) → Result (Unit {0}) Halt → Type 0
+LastSent going last (Ok u) = going
+LastSent going last (Err halt) = LastHalts last halt
+
+-- a frame came, whose last bytes the last call gave, and each call went on; or the last call ended it
+abbrev pub LastOf : {A : Type 0} → (going : Type 0) → (last : Answer → Type 0) → Result A Halt → Type 0
+LastOf going last (Ok a) = going × ((bytes : List ℕ) × last (to_receive (gets.Bytes bytes)))
+LastOf going last (Err halt) = LastHalts last halt
 
 -- ---- the steps of awaiting
 

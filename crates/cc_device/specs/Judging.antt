@@ -1,5 +1,5 @@
 -- What frames that were awaited come to, and what an exchange of frames comes to.
-use Rattle.std.specs.Prelude.{◌≡◌, ℕ, ◌==◌, cond, List, [], ◌∷◌, ◌++◌, length, Result, Ok, Err}
+use Rattle.std.specs.Prelude.{◌≡◌, ℕ, ◌==◌, cond, List, [], ◌∷◌, length, Result, Ok, Err}
 use Rattle.cc_meaning.specs.declared.frame.Frame.{Frame}
 use Rattle.cc_meaning.specs.declared.fault.ImageFault.{ImageFault}
 use Rattle.cc_meaning.specs.declared.image.RunImage.{RunImage}
@@ -17,7 +17,7 @@ use Rattle.cc_outside.specs.Counting.{Rose}
 use Rattle.cc_link.specs.Links.{Known, Counts, known_sent, known_got}
 use Rattle.cc_device.specs.declared.exchange.Halt.{Halt}
 use Rattle.cc_device.specs.declared.exchange.Halt.TheVariants as halts
-use Rattle.cc_device.specs.Exchanging.{SendingEnds, AwaitingEnds}
+use Rattle.cc_device.specs.Exchanging.{Span, span, SendingEnds, AwaitingEnds, IsFault}
 
 -- ---- one frame
 
@@ -52,23 +52,23 @@ pub record AnswersSo {A : Type 0} (judge : Frame → Result A LinkEnd) (bytes se
   pub whole : front_of got ≡ Whole frame (length got)
   pub judged : judge frame ≡ Ok a
 
--- the bytes weren't all sent, no frame came, or the frame isn't the one that was awaited
-pub data EndsSo {A : Type 0} (judge : Frame → Result A LinkEnd) (bytes : List ℕ) (patience : ℕ) (sent got : List ℕ) (e : LinkEnd) (old new : Counts) : Type 0 where
-  in_sending : IsPrefixOf sent bytes → got ≡ [] → SendingEnds patience e old new → EndsSo judge bytes patience sent got e old new
-  in_awaiting : sent ≡ bytes → AwaitingEnds got patience e old new → EndsSo judge bytes patience sent got e old new
-  by_frame : (frame : Frame) → sent ≡ bytes → front_of got ≡ Whole frame (length got) → judge frame ≡ Err e → EndsSo judge bytes patience sent got e old new
+-- The bytes weren't all sent, no frame came, or the frame isn't the one that was awaited. A prompt link takes all bytes, and gives some as long as it owes any.
+pub data EndsSo {A : Type 0} (judge : Frame → Result A LinkEnd) (bytes : List ℕ) (patience : ℕ) (sent got : List ℕ) (e : LinkEnd) (c : Span) : Type 0 where
+  in_sending : IsPrefixOf sent bytes → got ≡ [] → SendingEnds patience e c.old c.new → (c.prompt → ⊥) → EndsSo judge bytes patience sent got e c
+  in_awaiting : sent ≡ bytes → AwaitingEnds got patience e c.old c.new → (c.prompt → c.owes → IsFault e) → EndsSo judge bytes patience sent got e c
+  by_frame : (frame : Frame) → sent ≡ bytes → front_of got ≡ Whole frame (length got) → judge frame ≡ Err e → EndsSo judge bytes patience sent got e c
 
-abbrev pub Comes : {A : Type 0} → (Frame → Result A LinkEnd) → List ℕ → ℕ → (sent got : List ℕ) → Result A Halt → Counts → Counts → Type 0
-Comes judge bytes patience sent got (Ok a) old new = AnswersSo judge bytes sent got a
-Comes judge bytes patience sent got (Err halts.Memory) old new = Unit {0}
-Comes judge bytes patience sent got (Err (halts.End e)) old new = EndsSo judge bytes patience sent got e old new
+abbrev pub Comes : {A : Type 0} → (Frame → Result A LinkEnd) → List ℕ → ℕ → (sent got : List ℕ) → Result A Halt → Span → Type 0
+Comes judge bytes patience sent got (Ok a) c = AnswersSo judge bytes sent got a
+Comes judge bytes patience sent got (Err halts.Memory) c = Unit {0}
+Comes judge bytes patience sent got (Err (halts.End e)) c = EndsSo judge bytes patience sent got e c
 
 -- these bytes were sent and got, and this is what they come to
-pub record Exchanges {A : Type 0} (judge : Frame → Result A LinkEnd) (bytes : List ℕ) (patience : ℕ) (k : Known) (old : Counts) (r : Result A Halt) (k' : Known) (new : Counts) : Type 0 where
+pub record Exchanges {A : Type 0} (judge : Frame → Result A LinkEnd) (bytes : List ℕ) (patience : ℕ) (k : Known) (old : Counts) (prompt : Type 0) (r : Result A Halt) (k' : Known) (new : Counts) : Type 0 where
   pub sent : List ℕ
   pub got : List ℕ
   pub known : k' ≡ known_got got (known_sent sent k)
-  pub came : Comes judge bytes patience sent got r old new
+  pub came : Comes judge bytes patience sent got r (span old new prompt k')
 
 -- the frame that comes, whatever it is
 abbrev pub any_frame : Frame → Result Frame LinkEnd
@@ -87,7 +87,7 @@ run_bytes image = frame_bytes run_kind (spelled_run image)
 -- ---- opening
 
 -- the link couldn't be made, and nothing was sent or got; or a Hello was exchanged for a Ready
-pub data Opens (hello : List ℕ) (patience : ℕ) (k : Known) (old : Counts) (r : Result (Unit {0}) Halt) (k' : Known) (new : Counts) : Type 0 where
-  not_dialed : k' ≡ k → r ≡ Err (halts.End ends.DialFailed) → Rose old.faults new.faults → Opens hello patience k old r k' new
-  not_begun : k' ≡ k → r ≡ Err halts.Memory → Opens hello patience k old r k' new
-  dialed : Exchanges judge_ready hello patience k old r k' new → Opens hello patience k old r k' new
+pub data Opens (hello : List ℕ) (patience : ℕ) (k : Known) (old : Counts) (prompt : Type 0) (r : Result (Unit {0}) Halt) (k' : Known) (new : Counts) : Type 0 where
+  not_dialed : k' ≡ k → r ≡ Err (halts.End ends.DialFailed) → Rose old.faults new.faults → (prompt → ⊥) → Opens hello patience k old prompt r k' new
+  not_begun : k' ≡ k → r ≡ Err halts.Memory → Opens hello patience k old prompt r k' new
+  dialed : Exchanges judge_ready hello patience k old prompt r k' new → Opens hello patience k old prompt r k' new

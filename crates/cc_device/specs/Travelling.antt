@@ -1,5 +1,5 @@
 -- What a run whose moved function is done by a clone comes to, and what is sent and got for it.
-use Rattle.std.specs.Prelude.{◌≡◌, ◌≢◌, ◌⊎◌, ℕ, zero, suc, ◌+◌, ◌≤◌, ◌<◌, ◌==◌, Bool, true, false, cond, ℤ, List, [], ◌∷◌, ◌++◌, length, drop, Option, Some, None, is_some, option_map, Result, Ok, Err, slice_set}
+use Rattle.std.specs.Prelude.{◌≡◌, ◌≢◌, ◌⊎◌, ℕ, suc, ◌+◌, ◌≤◌, ◌<◌, ◌==◌, Bool, true, false, cond, List, [], ◌∷◌, ◌++◌, length, drop, Option, Some, None, is_some, Result, Ok, Err, slice_set}
 use Rattle.std.specs.List.{flat_map}
 use Rattle.cc_meaning.specs.declared.file.Job.{Job}
 use Rattle.cc_meaning.specs.declared.frame.Frame.{Frame}
@@ -28,16 +28,15 @@ use Rattle.cc_meaning_device.specs.Received.{Received, is_ready, Offloaded, offl
 use Rattle.cc_meaning_device.specs.Straight.{plain_device, value_back, Course, course_with_line, course_came, called, course_of, plain_course}
 use Rattle.cc_machine.specs.declared.progress.Progress.{Progress}
 use Rattle.cc_machine.specs.declared.progress.Came.{Came as MachineCame}
-use Rattle.cc_machine.specs.declared.progress.Entry.{Entry}
 use Rattle.cc_machine.specs.declared.progress.Pause.{Pause}
 use Rattle.cc_machine.specs.declared.progress.Pause.TheVariants as pauses
 use Rattle.cc_machine.specs.Running.{stage_ended}
 use Rattle.cc_outside.specs.Counting.{Rose, RoseBy}
-use Rattle.cc_link.specs.Links.{Known, Counts, NeverFall, known_sent, known_got}
+use Rattle.cc_link.specs.Links.{Known, Counts, Answer, NeverFall, known_sent, known_got}
 use Rattle.cc_device.specs.declared.contact.Contact.{Contact}
 use Rattle.cc_device.specs.declared.exchange.Halt.{Halt}
 use Rattle.cc_device.specs.declared.exchange.Halt.TheVariants as halts
-use Rattle.cc_device.specs.Exchanging.{SendingEnds, AwaitingEnds}
+use Rattle.cc_device.specs.Exchanging.{Span, span, SendingEnds, IsFault, EndedBy}
 use Rattle.cc_device.specs.Judging.{judge_ready, judge_back, AnswersSo, EndsSo, run_bytes}
 
 -- ---- what is given
@@ -72,24 +71,24 @@ pub data Took (p : Program) (hello : List ℕ) (image : RunImage) (sent got : Li
       AnswersSo (judge_back p image) (run_bytes image) sent_behind more back → Took p hello image sent got back false
 
 -- none came
-pub data Fell (p : Program) (hello : List ℕ) (patience : ℕ) (image : RunImage) (sent got : List ℕ) (e : LinkEnd) (old new : Counts) : Bool → Type 0 where
-  not_reached : e ≡ ends.DialFailed → sent ≡ [] → got ≡ [] → Rose old.faults new.faults → Fell p hello patience image sent got e old new false
-  not_opened : EndsSo judge_ready hello patience sent got e old new → Fell p hello patience image sent got e old new false
-  not_called : EndsSo (judge_back p image) (run_bytes image) patience sent got e old new → Fell p hello patience image sent got e old new true
+pub data Fell (p : Program) (hello : List ℕ) (patience : ℕ) (image : RunImage) (sent got : List ℕ) (e : LinkEnd) (c : Span) : Bool → Type 0 where
+  not_reached : e ≡ ends.DialFailed → sent ≡ [] → got ≡ [] → Rose c.old.faults c.new.faults → (c.prompt → ⊥) → Fell p hello patience image sent got e c false
+  not_opened : EndsSo judge_ready hello patience sent got e c → Fell p hello patience image sent got e c false
+  not_called : EndsSo (judge_back p image) (run_bytes image) patience sent got e c → Fell p hello patience image sent got e c true
   not_called_first : (ready : Frame) (first sent_behind more : List ℕ) → sent ≡ hello ++ sent_behind → got ≡ first ++ more → front_of first ≡ Whole ready (length first) → judge_ready ready ≡ Ok tt →
-      EndsSo (judge_back p image) (run_bytes image) patience sent_behind more e old new → Fell p hello patience image sent got e old new false
+      EndsSo (judge_back p image) (run_bytes image) patience sent_behind more e c → Fell p hello patience image sent got e c false
 
-abbrev pub ReachedBy : Program → (hello : List ℕ) → (patience : ℕ) → RunImage → (sent got : List ℕ) → Result BackImage Halt → Counts → Counts → (is_open : Bool) → Type 0
-ReachedBy p hello patience image sent got (Ok back) old new is_open = Took p hello image sent got back is_open
-ReachedBy p hello patience image sent got (Err halts.Memory) old new is_open = Unit {0}
-ReachedBy p hello patience image sent got (Err (halts.End e)) old new is_open = Fell p hello patience image sent got e old new is_open
+abbrev pub ReachedBy : Program → (hello : List ℕ) → (patience : ℕ) → RunImage → (sent got : List ℕ) → Result BackImage Halt → Span → (is_open : Bool) → Type 0
+ReachedBy p hello patience image sent got (Ok back) c is_open = Took p hello image sent got back is_open
+ReachedBy p hello patience image sent got (Err halts.Memory) c is_open = Unit {0}
+ReachedBy p hello patience image sent got (Err (halts.End e)) c is_open = Fell p hello patience image sent got e c is_open
 
 -- what was sent and got for the call, and what it came to
-pub record Reaches (p : Program) (hello : List ℕ) (patience : ℕ) (image : RunImage) (is_open : Bool) (k : Known) (old : Counts) (r : Result BackImage Halt) (k' : Known) (new : Counts) : Type 0 where
+pub record Reaches (p : Program) (hello : List ℕ) (patience : ℕ) (image : RunImage) (is_open : Bool) (k : Known) (old : Counts) (prompt : Type 0) (r : Result BackImage Halt) (k' : Known) (new : Counts) : Type 0 where
   pub sent : List ℕ
   pub got : List ℕ
   pub known : k' ≡ known_got got (known_sent sent k)
-  pub came : ReachedBy p hello patience image sent got r old new is_open
+  pub came : ReachedBy p hello patience image sent got r (span old new prompt k') is_open
 
 -- ---- a run
 
@@ -170,13 +169,15 @@ AwaitingEnded got patience (ends.Unexpected kind) old new = ⊥
 AwaitingEnded got patience (ends.Unfit fault) old new = ⊥
 AwaitingEnded got patience (ends.Refused status) old new = ⊥
 
--- The link couldn't be made; or a front of what is due was sent, and the rest wasn't taken; or all was sent, and no frame came, or another than was awaited.
-pub data EndsTravel (p : Program) (hello : List ℕ) (patience : ℕ) (sent got : List ℕ) (images : List RunImage) (e : LinkEnd) (old new : Counts) : Type 0 where
-  not_dialed : e ≡ ends.DialFailed → sent ≡ [] → got ≡ [] → Rose old.faults new.faults → EndsTravel p hello patience sent got images e old new
-  in_sending : IsPrefixOf sent (due hello (frames_of got).frames images) → (frames_of got).ending ≡ Rest [] → SendingEnds patience e old new → EndsTravel p hello patience sent got images e old new
-  in_awaiting : sent ≡ due hello (frames_of got).frames images → AwaitingEnded got patience e old new → EndsTravel p hello patience sent got images e old new
+-- The link couldn't be made; or a front of what is due was sent, and the rest wasn't taken; or all was sent, and no frame came, so that fewer came than were asked
+-- for, or another than was awaited. A prompt link is made, takes all bytes, and gives some as long as it owes any.
+pub data EndsTravel (p : Program) (hello : List ℕ) (patience : ℕ) (sent got : List ℕ) (images : List RunImage) (e : LinkEnd) (c : Span) : Type 0 where
+  not_dialed : e ≡ ends.DialFailed → sent ≡ [] → got ≡ [] → Rose c.old.faults c.new.faults → (c.prompt → ⊥) → EndsTravel p hello patience sent got images e c
+  in_sending : IsPrefixOf sent (due hello (frames_of got).frames images) → (frames_of got).ending ≡ Rest [] → SendingEnds patience e c.old c.new → (c.prompt → ⊥) → EndsTravel p hello patience sent got images e c
+  in_awaiting : sent ≡ due hello (frames_of got).frames images → length (frames_of got).frames ≤ length images → AwaitingEnded got patience e c.old c.new → (c.prompt → c.owes → IsFault e) →
+      EndsTravel p hello patience sent got images e c
   by_frame : (before : List Frame) (frame : Frame) → sent ≡ due hello (frames_of got).frames images → (frames_of got).ending ≡ Rest [] → (frames_of got).frames ≡ before ++ frame ∷ [] →
-      JudgedSo p before images frame e → EndsTravel p hello patience sent got images e old new
+      JudgedSo p before images frame e → EndsTravel p hello patience sent got images e c
 
 -- all that is due was sent, and each answer came whole: a Ready, and one for each image
 pub record TravelsOn (hello sent got : List ℕ) (images : List RunImage) : Type 0 where
@@ -193,60 +194,65 @@ pub record StaysHome (sent got : List ℕ) (images : List RunImage) : Type 0 whe
   pub deaf : got ≡ []
 
 -- how the device stands with its clone
-abbrev pub TravelsSo : Program → (hello : List ℕ) → (patience : ℕ) → Contact → (sent got : List ℕ) → List RunImage → Counts → Counts → Type 0
-TravelsSo p hello patience contact sent got images old new = by contact.end contact.is_open
+abbrev pub TravelsSo : Program → (hello : List ℕ) → (patience : ℕ) → Contact → (sent got : List ℕ) → List RunImage → Span → Type 0
+TravelsSo p hello patience contact sent got images c = by contact.end contact.is_open
   where
     by : Option LinkEnd → Bool → Type 0
     by None false = StaysHome sent got images
     by None true = TravelsOn hello sent got images
-    by (Some e) is_open = (images ≢ []) × EndsTravel p hello patience sent got images e old new
+    by (Some e) is_open = (images ≢ []) × EndsTravel p hello patience sent got images e c
 
 -- These bytes were sent and got for these images so far, and over all frames that may still come the run is what is left of it.
-pub record Stood (plain : Plain) (moved : Option ℕ) (job : Job) (contact : Contact) (left : Received → Course) (k : Known) (old : Counts) (k' : Known) (new : Counts) : Type 0 where
+pub record Stood (plain : Plain) (moved : Option ℕ) (job : Job) (contact : Contact) (left : Received → Course) (k : Known) (old : Counts) (prompt : Type 0) (k' : Known) (new : Counts) (prompt' : Type 0) : Type 0 where
   pub sent : List ℕ
   pub got : List ℕ
   pub images : List RunImage
   pub known : k' ≡ known_got got (known_sent sent k)
   pub counts : NeverFall old new
-  pub travels : TravelsSo (program_of plain) (hello_bytes job) job.patience contact sent got images old new
+  -- a prompt link is one yet, as long as the device didn't fall back
+  pub stays : contact.end ≡ None → prompt → prompt'
+  pub travels : TravelsSo (program_of plain) (hello_bytes job) job.patience contact sent got images (span old new prompt k')
   pub course : GoesSo contact.end (λ frames. plain_course plain (moves_of plain moved) job.limits frames) got (λ frames. left (received_of contact images frames))
 
 -- what calling the clone came to: its Back, or why the device falls back
-pub data CallsThere (plain : Plain) (job : Job) (image : RunImage) (contact : Contact) (k : Known) (old : Counts) (k' : Known) (new : Counts) : Option MachineCame → Contact → Type 0 where
-  gives_back : (back : BackImage) → Reaches (program_of plain) (hello_bytes job) job.patience image contact.is_open k old (Ok back) k' new →
-      CallsThere plain job image contact k old k' new (Some (record { value = value_back back.ending; instructions = back.instructions; words = back.words })) (record { is_open = true; merged = contact.merged + 1; end = contact.end })
-  falls_back : (e : LinkEnd) → Reaches (program_of plain) (hello_bytes job) job.patience image contact.is_open k old (Err (halts.End e)) k' new →
-      CallsThere plain job image contact k old k' new None (record { is_open = contact.is_open; merged = contact.merged; end = Some e })
+pub data CallsThere (plain : Plain) (job : Job) (image : RunImage) (contact : Contact) (k : Known) (old : Counts) (prompt : Type 0) (k' : Known) (new : Counts) : Option MachineCame → Contact → Type 0 where
+  gives_back : (back : BackImage) → Reaches (program_of plain) (hello_bytes job) job.patience image contact.is_open k old prompt (Ok back) k' new →
+      CallsThere plain job image contact k old prompt k' new (Some (record { value = value_back back.ending; instructions = back.instructions; words = back.words })) (record { is_open = true; merged = contact.merged + 1; end = contact.end })
+  falls_back : (e : LinkEnd) → Reaches (program_of plain) (hello_bytes job) job.patience image contact.is_open k old prompt (Err (halts.End e)) k' new →
+      CallsThere plain job image contact k old prompt k' new None (record { is_open = contact.is_open; merged = contact.merged; end = Some e })
 
 -- what a call came to, and how the device stands behind it
-pub record CallDone (plain : Plain) (moved : Option ℕ) (job : Job) (entry : Entry) (p : Progress) (contact : Contact) (k : Known) (old : Counts) (k' : Known) (new : Counts) (untouched : Type 0) (came : MachineCame) (contact' : Contact) : Type 0 where
-  pub stands : (k0 : Known) (first : Counts) → Stood plain moved job contact (paused_course plain (moves_of plain moved) (pauses.AtEntry entry) p) k0 first k old →
-      Stood plain moved job contact' (behind_call plain (moves_of plain moved) entry.to came p) k0 first k' new
+pub record CallDone (p : Progress) (contact : Contact) (untouched : Type 0) (came : MachineCame) (contact' : Contact) : Type 0 where
   pub instructions : came.instructions ≤ p.instructions
   pub words : came.words ≤ p.words
   pub merged : contact'.merged ≤ contact.merged + 1
   pub home : contact'.is_open ≡ false → contact'.end ≡ None → untouched
 
+-- each call on the link went on; or the device fell back, and the last call ended the travel, as none before it did
+abbrev pub LastEnds : (going : Type 0) → (last : Answer → Type 0) → Option LinkEnd → Type 0
+LastEnds going last None = going
+LastEnds going last (Some e) = EndedBy last e
+
 -- ---- what an offloaded run promises
 
 -- no moved method was entered, or every one was done by the clone, or the device fell back for this reason
-abbrev pub TravelsAs : Program → (hello : List ℕ) → (patience : ℕ) → Option LinkEnd → (sent got : List ℕ) → List RunImage → Counts → Counts → Type 0
-TravelsAs p hello patience None sent got images old new = StaysHome sent got images ⊎ TravelsOn hello sent got images
-TravelsAs p hello patience (Some e) sent got images old new = (images ≢ []) × EndsTravel p hello patience sent got images e old new
+abbrev pub TravelsAs : Program → (hello : List ℕ) → (patience : ℕ) → Option LinkEnd → (sent got : List ℕ) → List RunImage → Span → Type 0
+TravelsAs p hello patience None sent got images c = StaysHome sent got images ⊎ TravelsOn hello sent got images
+TravelsAs p hello patience (Some e) sent got images c = (images ≢ []) × EndsTravel p hello patience sent got images e c
 
 -- the run over received frames
 abbrev pub offloaded_over : Plain → Option ℕ → Limits → List Frame → Offloaded
 offloaded_over plain moved limits frames = offloaded (plain_device plain (moves_of plain moved)) (setting_of plain) [] limits frames
 
 -- These bytes were sent and got, and the report and the travel are those of the run over the frames of what was got.
-pub record Offloads (plain : Plain) (moved : Option ℕ) (job : Job) (report : Report) (travel : Travel) (k : Known) (old : Counts) (k' : Known) (new : Counts) (untouched : Type 0) : Type 0 where
+pub record Offloads (plain : Plain) (moved : Option ℕ) (job : Job) (report : Report) (travel : Travel) (k : Known) (old : Counts) (prompt : Type 0) (k' : Known) (new : Counts) (untouched : Type 0) : Type 0 where
   pub sent : List ℕ
   pub got : List ℕ
   pub known : k' ≡ known_got got (known_sent sent k)
   pub reports : (offloaded_over plain moved job.limits (frames_of got).frames).report ≡ Some report
   pub migrations : (offloaded_over plain moved job.limits (frames_of got).frames).received.merged ≡ travel.migrations
   pub fallback : (offloaded_over plain moved job.limits (frames_of got).frames).received.fallen ≡ is_some travel.fallback
-  pub travels : TravelsAs (program_of plain) (hello_bytes job) job.patience travel.fallback sent got (offloaded_over plain moved job.limits (frames_of got).frames).received.images old new
+  pub travels : TravelsAs (program_of plain) (hello_bytes job) job.patience travel.fallback sent got (offloaded_over plain moved job.limits (frames_of got).frames).received.images (span old new prompt k')
   -- where it didn't fall back, each entry of the moved method migrated
   pub each : travel.fallback ≡ None → travel.migrations ≡ length (offloaded_over plain moved job.limits (frames_of got).frames).received.images
   -- where no moved method was entered, the link is as it was

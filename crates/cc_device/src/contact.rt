@@ -1,10 +1,11 @@
 //! What a device asks of its clone, frame by frame.
 
-ghost use Rattle.std.specs.Prelude.{◌≡◌, ◌↔◌, ◌≤◌, ◌<◌, ◌^◌, false, length, IfOk};
+ghost use Rattle.std.specs.Prelude.{◌≡◌, ◌↔◌, ◌≤◌, ◌<◌, ◌^◌, false, length, IfOk, OnOk};
 ghost use Rattle.cc_link.specs.Links.{NeverFall};
 ghost use Rattle.cc_meaning_images.specs.Forms.{IsRunOf};
 ghost use Rattle.cc_meaning_images.specs.Spelling.{spelled_run};
 ghost use Rattle.cc_meaning_plain.specs.Program.{program_of};
+ghost use Rattle.cc_device.specs.Exchanging.{LastOf};
 ghost use Rattle.cc_device.specs.Travelling.{hello_payload, hello_bytes, Reaches};
 ghost use Rattle.cc_device.specs.Judging.{wrong_frame, judge_ready, judge_back, any_frame, Exchanges, Opens, JudgedBy, run_bytes};
 
@@ -45,10 +46,12 @@ pub(crate) struct Contact {
 /// Sends bytes and awaits a frame.
 fn ask<L: Link>(alloc: Global, link: &mut L, bytes: &[u8], patience: u32) -> Result<Frame, Halt>
     requires { 1 ≤ patience }
-    ensures exchanges { Exchanges any_frame bytes.now patience (L.known link.old) (L.counts link.old) result (L.known link.new) (L.counts link.new) }
+    ensures exchanges { Exchanges any_frame bytes.now patience (L.known link.old) (L.counts link.old) (L.prompt link.old) result (L.known link.new) (L.counts link.new) }
     ensures short { IfOk result (λ frame. length frame.payload ≤ 67108864) }
     ensures counts { NeverFall (L.counts link.old) (L.counts link.new) }
     ensures honest { L.honest link.old ↔ L.honest link.new }
+    ensures prompt { OnOk result (L.prompt link.old → L.prompt link.new) }
+    ensures last { L.going link.old → LastOf (L.going link.new) (L.last link.new) result }
 {
     frame_laws::begins_with_whole();
     send_all(link, bytes, patience)?;
@@ -103,9 +106,11 @@ fn judge_back(
 /// Exchanges a Hello for a Ready.
 fn greet<L: Link>(alloc: Global, link: &mut L, hello: &[u8], patience: u32) -> Result<(), Halt>
     requires { 1 ≤ patience }
-    ensures exchanges { Exchanges judge_ready hello.now patience (L.known link.old) (L.counts link.old) result (L.known link.new) (L.counts link.new) }
+    ensures exchanges { Exchanges judge_ready hello.now patience (L.known link.old) (L.counts link.old) (L.prompt link.old) result (L.known link.new) (L.counts link.new) }
     ensures counts { NeverFall (L.counts link.old) (L.counts link.new) }
     ensures honest { L.honest link.old ↔ L.honest link.new }
+    ensures prompt { OnOk result (L.prompt link.old → L.prompt link.new) }
+    ensures last { L.going link.old → LastOf (L.going link.new) (L.last link.new) result }
 {
     let frame = ask(alloc, link, hello, patience)?;
     judge_ready(&frame)
@@ -120,9 +125,11 @@ fn open<L: Link>(
     patience: u32,
 ) -> Result<(), Halt>
     requires { 1 ≤ patience }
-    ensures opens { Opens hello.now patience (L.known link.old) (L.counts link.old) result (L.known link.new) (L.counts link.new) }
+    ensures opens { Opens hello.now patience (L.known link.old) (L.counts link.old) (L.prompt link.old) result (L.known link.new) (L.counts link.new) }
     ensures counts { NeverFall (L.counts link.old) (L.counts link.new) }
     ensures honest { L.honest link.old ↔ L.honest link.new }
+    ensures prompt { OnOk result (L.prompt link.old → L.prompt link.new) }
+    ensures last { L.going link.old → LastOf (L.going link.new) (L.last link.new) result }
 {
     match link.dial(place) {
         Dialed::Up => greet(alloc, link, hello, patience),
@@ -153,9 +160,11 @@ fn ask_back<L: Link>(
     requires patient { 1 ≤ patience }
     requires sent { IsRunOf (program_of plain.now) run.now }
     ensures exchanges { Exchanges (judge_back (program_of plain.now) run.now) bytes.now patience
-        (L.known link.old) (L.counts link.old) result (L.known link.new) (L.counts link.new) }
+        (L.known link.old) (L.counts link.old) (L.prompt link.old) result (L.known link.new) (L.counts link.new) }
     ensures counts { NeverFall (L.counts link.old) (L.counts link.new) }
     ensures honest { L.honest link.old ↔ L.honest link.new }
+    ensures prompt { OnOk result (L.prompt link.old → L.prompt link.new) }
+    ensures last { L.going link.old → LastOf (L.going link.new) (L.last link.new) result }
 {
     let frame = ask(alloc, link, bytes, patience)?;
     judge_back(alloc, plain, run, &frame)
@@ -173,9 +182,11 @@ fn call<L: Link>(
     requires sent { IsRunOf (program_of plain.now) run.now }
     requires short { length (spelled_run run.now) ≤ 67108864 }
     ensures exchanges { Exchanges (judge_back (program_of plain.now) run.now) (run_bytes run.now) patience
-        (L.known link.old) (L.counts link.old) result (L.known link.new) (L.counts link.new) }
+        (L.known link.old) (L.counts link.old) (L.prompt link.old) result (L.known link.new) (L.counts link.new) }
     ensures counts { NeverFall (L.counts link.old) (L.counts link.new) }
     ensures honest { L.honest link.old ↔ L.honest link.new }
+    ensures prompt { OnOk result (L.prompt link.old → L.prompt link.new) }
+    ensures last { L.going link.old → LastOf (L.going link.new) (L.last link.new) result }
 {
     match run_frame(alloc, run) {
         Ok(bytes) => ask_back(alloc, link, plain, run, bytes.as_slice(), patience),
@@ -196,9 +207,11 @@ fn open_and_call<L: Link>(
     requires sent { IsRunOf (program_of plain.now) run.now }
     requires short { length (spelled_run run.now) ≤ 67108864 }
     ensures reaches { Reaches (program_of plain.now) hello.now job.now.patience run.now false
-        (L.known link.old) (L.counts link.old) result (L.known link.new) (L.counts link.new) }
+        (L.known link.old) (L.counts link.old) (L.prompt link.old) result (L.known link.new) (L.counts link.new) }
     ensures counts { NeverFall (L.counts link.old) (L.counts link.new) }
     ensures honest { L.honest link.old ↔ L.honest link.new }
+    ensures prompt { OnOk result (L.prompt link.old → L.prompt link.new) }
+    ensures last { L.going link.old → LastOf (L.going link.new) (L.last link.new) result }
 {
     open(alloc, link, job.place.as_str(), hello, job.patience)?;
     call(alloc, link, plain, run, job.patience)
@@ -218,9 +231,11 @@ pub(crate) fn reach<L: Link>(
     requires sent { IsRunOf (program_of plain.now) run.now }
     requires short { length (spelled_run run.now) ≤ 67108864 }
     ensures reaches { Reaches (program_of plain.now) (hello_bytes job.now) job.now.patience run.now is_open
-        (L.known link.old) (L.counts link.old) result (L.known link.new) (L.counts link.new) }
+        (L.known link.old) (L.counts link.old) (L.prompt link.old) result (L.known link.new) (L.counts link.new) }
     ensures counts { NeverFall (L.counts link.old) (L.counts link.new) }
     ensures honest { L.honest link.old ↔ L.honest link.new }
+    ensures prompt { OnOk result (L.prompt link.old → L.prompt link.new) }
+    ensures last { L.going link.old → LastOf (L.going link.new) (L.last link.new) result }
 {
     if is_open {
         return call(alloc, link, plain, run, job.patience);

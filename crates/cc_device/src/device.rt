@@ -1,15 +1,16 @@
 //! A run whose moved function is done by a clone.
 
 ghost use Rattle.std.specs.Prelude.{◌≡◌, ◌≢◌, ◌↔◌, ◌+◌, ◌-◌, ◌^◌, ◌≤◌, ◌<◌, ℕ, [], Option, Some, None, false, drop, is_some, length, IfOk, OnOk};
-ghost use Rattle.cc_link.specs.Links.{Known, Counts, NeverFall};
+ghost use Rattle.cc_link.specs.Links.{NeverFall};
 ghost use Rattle.cc_link.specs.Honest.{told};
 ghost use Rattle.cc_meaning_clone.specs.Hello.{IsHelloOf};
 ghost use Rattle.cc_meaning_images.specs.Forms.{IsRunOf};
 ghost use Rattle.cc_meaning_images.specs.Spelling.{spelled_run};
 ghost use Rattle.cc_meaning_plain.specs.Program.{program_of};
 ghost use Rattle.cc_meaning_device.specs.Received.{Received};
+ghost use Rattle.cc_meaning_device.specs.Complete.{moved_calls};
 ghost use Rattle.cc_machine.specs.Going.{is_stop};
-ghost use Rattle.cc_device.specs.Travelling.{IsOfFile, hello_payload, moves_of, course_from, paused_course, behind_call, stops_in, Keeps, CallsThere, CallDone, begun_course, IsLater, Stood, Offloads, IsLocal, FallsOnlySo};
+ghost use Rattle.cc_device.specs.Travelling.{IsOfFile, hello_payload, moves_of, course_from, paused_course, behind_call, stops_in, Keeps, CallsThere, CallDone, LastEnds, begun_course, IsLater, Stood, Offloads, IsLocal, FallsOnlySo};
 
 use crate::capture::{came_of, entry_image};
 use crate::contact::{Contact, reach};
@@ -22,8 +23,9 @@ use cc_meaning::image::RunImage;
 use cc_meaning::report::{Ending, Report};
 use cc_meaning::travel::Travel;
 use cc_meaning_device::{
-    law_clone_is_transparent, law_entry_is_run, law_entry_is_short, law_functions_are_few,
-    law_merges_each, law_noted_is_answered, law_plain_offloads, law_stream_comes,
+    law_clone_is_transparent, law_each_call_migrates, law_entry_is_run, law_entry_is_short,
+    law_functions_are_few, law_merges_each, law_noted_is_answered, law_plain_offloads,
+    law_stream_comes, law_stream_owes,
 };
 use cc_meaning_nodes::frame_laws;
 use cc_meaning_plain::Plain;
@@ -44,9 +46,11 @@ fn call_there<L: Link>(
     requires short { length (spelled_run run.now) ≤ 67108864 }
     requires few { contact.old.merged < 2 ^ 64 - 1 }
     ensures calls { IfOk result (λ came. CallsThere plain.now job.now run.now contact.old (L.known link.old) (L.counts link.old)
-        (L.known link.new) (L.counts link.new) came contact.new) }
+        (L.prompt link.old) (L.known link.new) (L.counts link.new) came contact.new) }
     ensures counts { NeverFall (L.counts link.old) (L.counts link.new) }
     ensures honest { L.honest link.old ↔ L.honest link.new }
+    ensures prompt { OnOk result (contact.new.end ≡ None → L.prompt link.old → L.prompt link.new) }
+    ensures last { OnOk result (contact.old.end ≡ None → L.going link.old → LastEnds (L.going link.new) (L.last link.new) contact.new.end) }
 {
     match reach(alloc, link, plain, job, run, contact.is_open) {
         Ok(back) => {
@@ -161,8 +165,13 @@ fn call_moved<L: Link>(
     requires hello { length (hello_payload job.now) ≤ 67108864 }
     requires few { contact.old.merged < 2 ^ 64 - 1 }
     requires reaching { contact.old.end ≡ None }
-    ensures done { IfOk result (λ came. (moved : Option ℕ) → moved ≡ Some entry.function →
-        CallDone plain.now moved job.now entry machine.now contact.old (L.known link.old) (L.counts link.old) (L.known link.new) (L.counts link.new) ⊥ came contact.new) }
+    ensures stands { IfOk result (λ came. (start : L) (moved : Option ℕ) → moved ≡ Some entry.function →
+        Stood plain.now moved job.now contact.old (paused_course plain.now (moves_of plain.now moved) (Pause.AtEntry entry) machine.now)
+        (L.known start) (L.counts start) (L.prompt start) (L.known link.old) (L.counts link.old) (L.prompt link.old) →
+        Stood plain.now moved job.now contact.new (behind_call plain.now (moves_of plain.now moved) entry.to came machine.now)
+        (L.known start) (L.counts start) (L.prompt start) (L.known link.new) (L.counts link.new) (L.prompt link.new)) }
+    ensures done { IfOk result (λ came. CallDone machine.now contact.old ⊥ came contact.new) }
+    ensures last { OnOk result (L.going link.old → LastEnds (L.going link.new) (L.last link.new) contact.new.end) }
     ensures counts { NeverFall (L.counts link.old) (L.counts link.new) }
     ensures honest { L.honest link.old ↔ L.honest link.new }
 {
@@ -214,8 +223,14 @@ fn do_call<L: Link>(
     requires patient { 1 ≤ job.now.patience }
     requires hello { length (hello_payload job.now) ≤ 67108864 }
     requires few { contact.old.merged < 2 ^ 64 - 1 }
-    ensures done { IfOk result (λ came. CallDone plain.now moved job.now entry machine.now contact.old (L.known link.old) (L.counts link.old)
-        (L.known link.new) (L.counts link.new) ((link.new ≡ link.old) × (contact.new ≡ contact.old)) came contact.new) }
+    ensures stands { IfOk result (λ came. (start : L) →
+        Stood plain.now moved job.now contact.old (paused_course plain.now (moves_of plain.now moved) (Pause.AtEntry entry) machine.now)
+        (L.known start) (L.counts start) (L.prompt start) (L.known link.old) (L.counts link.old) (L.prompt link.old) →
+        Stood plain.now moved job.now contact.new (behind_call plain.now (moves_of plain.now moved) entry.to came machine.now)
+        (L.known start) (L.counts start) (L.prompt start) (L.known link.new) (L.counts link.new) (L.prompt link.new)) }
+    ensures done { IfOk result (λ came. CallDone machine.now contact.old ((link.new ≡ link.old) × (contact.new ≡ contact.old)) came contact.new) }
+    ensures last { OnOk result (LastEnds (L.going link.old) (L.last link.old) contact.old.end → LastEnds (L.going link.new) (L.last link.new) contact.new.end) }
+    ensures unmoved { moved ≡ None → link.new ≡ link.old }
     ensures counts { NeverFall (L.counts link.old) (L.counts link.new) }
     ensures honest { L.honest link.old ↔ L.honest link.new }
 {
@@ -255,10 +270,14 @@ fn drive<L: Link>(
     requires hello { length (hello_payload job.now) ≤ 67108864 }
     requires within { machine.old.next ≤ length plain.now.main.insns }
     requires later { IsLater first contact.old.merged machine.old.next }
-    ensures stands { IfOk result (λ ending. (k : Known) (c : Counts) →
-        Stood plain.now moved job.now contact.old (paused_course plain.now (moves_of plain.now moved) first machine.old) k c (L.known link.old) (L.counts link.old) →
-        Stood plain.now moved job.now contact.new (paused_course plain.now (moves_of plain.now moved) (Pause.Done ending) machine.new) k c (L.known link.new) (L.counts link.new)) }
+    ensures stands { IfOk result (λ ending. (start : L) →
+        Stood plain.now moved job.now contact.old (paused_course plain.now (moves_of plain.now moved) first machine.old)
+        (L.known start) (L.counts start) (L.prompt start) (L.known link.old) (L.counts link.old) (L.prompt link.old) →
+        Stood plain.now moved job.now contact.new (paused_course plain.now (moves_of plain.now moved) (Pause.Done ending) machine.new)
+        (L.known start) (L.counts start) (L.prompt start) (L.known link.new) (L.counts link.new) (L.prompt link.new)) }
     ensures home { OnOk result (contact.new.is_open ≡ false → contact.new.end ≡ None → link.new ≡ link.old) }
+    ensures last { OnOk result (LastEnds (L.going link.old) (L.last link.old) contact.old.end → LastEnds (L.going link.new) (L.last link.new) contact.new.end) }
+    ensures unmoved { moved ≡ None → link.new ≡ link.old }
     ensures counts { NeverFall (L.counts link.old) (L.counts link.new) }
     ensures honest { L.honest link.old ↔ L.honest link.new }
 {
@@ -296,21 +315,33 @@ pub fn offload<L: Link>(
     requires hello { length (hello_payload job.now) ≤ 67108864 }
     // The report and the travel are those of the run over the frames of what was got, whatever came.
     ensures offloads { IfOk result (λ done. Offloads plain.now moved job.now done.0 done.1
-        (L.known link.old) (L.counts link.old) (L.known link.new) (L.counts link.new) (link.new ≡ link.old)) }
+        (L.known link.old) (L.counts link.old) (L.prompt link.old) (L.known link.new) (L.counts link.new) (link.new ≡ link.old)) }
+    // After the first call that fails or gives the end nothing more is called on the link; the last call is the one that ended the travel.
+    ensures last { IfOk result (λ done. L.going link.old → LastEnds (L.going link.new) (L.last link.new) done.1.fallback) }
+    // Where no function is moved, nothing is.
+    ensures unmoved { moved ≡ None → link.new ≡ link.old }
     // Over a fresh and honest link, to whose clone the same file was sent, the report is that of the run on one heap.
     ensures transparent { IfOk result (λ done. L.honest link.old → L.known link.old ≡ told [] [] →
         IsHelloOf (hello_payload job.now) plain.now → IsLocal plain.now job.now.limits done.0) }
     // Over such a link the device falls back only where a count of the link rose: a call failed, moved nothing, or gave the end.
     ensures complete { IfOk result (λ done. L.honest link.old → L.known link.old ≡ told [] [] →
         IsHelloOf (hello_payload job.now) plain.now → FallsOnlySo done.1.fallback (L.counts link.old) (L.counts link.new)) }
+    // Over a prompt one it never falls back.
+    ensures prompt { IfOk result (λ done. L.prompt link.old → L.known link.old ≡ told [] [] →
+        IsHelloOf (hello_payload job.now) plain.now → done.1.fallback ≡ None) }
+    // Where it didn't, and the run returned, each call of the function in `main` migrated.
+    ensures migrates { IfOk result (λ done. done.1.fallback ≡ None → done.0.ending ≡ Ending.Returned →
+        done.1.migrations ≡ moved_calls plain.now (moves_of plain.now moved) plain.now.main.insns) }
     ensures counts { NeverFall (L.counts link.old) (L.counts link.new) }
     ensures honest { L.honest link.old ↔ L.honest link.new }
 {
     law_plain_offloads();
     law_clone_is_transparent();
     law_stream_comes();
+    law_stream_owes();
     law_noted_is_answered();
     law_merges_each();
+    law_each_call_migrates();
     frame_laws::goes_on();
     frame_laws::is_read_again();
     let mut machine = Machine::start(alloc, plain, job.limits)?;

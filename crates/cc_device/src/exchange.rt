@@ -1,9 +1,10 @@
 //! Bytes sent over a link, and frames awaited.
 
-ghost use Rattle.std.specs.Prelude.{◌≡◌, ◌↔◌, ◌≤◌, ◌++◌, length};
+ghost use Rattle.std.specs.Prelude.{◌≡◌, ◌↔◌, ◌≤◌, ◌++◌, length, OnOk};
 ghost use Rattle.cc_link.specs.Links.{NeverFall};
+ghost use Rattle.cc_link.specs.Honest.{LinkOwes};
 ghost use Rattle.cc_framing.specs.Reader.{wanted_of};
-ghost use Rattle.cc_device.specs.Exchanging.{SendsAll, Awaits, held_of, IsHeld, TakesIn};
+ghost use Rattle.cc_device.specs.Exchanging.{SendsAll, IsTaken, LastSent, Awaits, IsGiven, LastOf, held_of, IsHeld, TakesIn};
 
 use cc_framing::FrameReader;
 use cc_link::{Got, Link, Sent};
@@ -37,6 +38,9 @@ impl From<AllocError> for Halt {
 pub(crate) fn send_all<L: Link>(link: &mut L, bytes: &[u8], patience: u32) -> Result<(), Halt>
     requires { 1 ≤ patience }
     ensures sends { SendsAll (L.known link.old) (L.counts link.old) bytes.now patience result (L.known link.new) (L.counts link.new) }
+    ensures last { L.going link.old → LastSent (L.going link.new) (L.last link.new) result }
+    ensures taken { L.prompt link.old → IsTaken result }
+    ensures prompt { OnOk result (L.prompt link.old → L.prompt link.new) }
     ensures counts { NeverFall (L.counts link.old) (L.counts link.new) }
     ensures honest { L.honest link.old ↔ L.honest link.new }
 {
@@ -79,6 +83,9 @@ pub(crate) fn await_frame<L: Link>(
 ) -> Result<Frame, Halt>
     requires { 1 ≤ patience }
     ensures awaits { Awaits (L.known link.old) (L.counts link.old) patience result (L.known link.new) (L.counts link.new) }
+    ensures last { L.going link.old → LastOf (L.going link.new) (L.last link.new) result }
+    ensures given { L.prompt link.old → LinkOwes (L.known link.new) → IsGiven result }
+    ensures prompt { OnOk result (L.prompt link.old → L.prompt link.new) }
     ensures counts { NeverFall (L.counts link.old) (L.counts link.new) }
     ensures honest { L.honest link.old ↔ L.honest link.new }
 {

@@ -37,6 +37,30 @@ known_sent bytes k = record k { sent = more bytes k.sent }
 abbrev pub known_got : List ℕ → Known → Known
 known_got bytes k = record k { got = more bytes k.got }
 
+-- what a call answered
+pub data Answer : Type 0 where
+  to_dial : (answer : Dialed) → Answer
+  to_send : (answer : Sent) → Answer
+  to_receive : (answer : Got) → Answer
+
+-- it moved something, or nothing yet: it is no failure, no end and no want of memory
+abbrev pub GoesOn : Answer → Type 0
+GoesOn (to_dial dials.Up) = Unit {0}
+GoesOn (to_dial answer) = ⊥
+GoesOn (to_send (sends.Took n)) = Unit {0}
+GoesOn (to_send sends.NotYet) = Unit {0}
+GoesOn (to_send answer) = ⊥
+GoesOn (to_receive (gets.Bytes bytes)) = Unit {0}
+GoesOn (to_receive gets.NotYet) = Unit {0}
+GoesOn (to_receive answer) = ⊥
+
+-- what a link says of its calls that doesn't keep their answers
+abbrev pub always_goes : {S : Type 0} → S → Type 0
+always_goes s = Unit {0}
+
+abbrev pub any_answer : {S : Type 0} → S → Answer → Type 0
+any_answer s answer = Unit {0}
+
 -- ---- one call
 
 -- what dialing answers. What is known stays as it is, which is a clause of its own

@@ -67,7 +67,7 @@ impl CannedLink {
 
 impl Link for CannedLink {
     ghost use Rattle.std.specs.Prelude.{◌≡◌, ◌≢◌, ◌↔◌, ◌≤◌, ◌<◌, length};
-    ghost use Rattle.cc_link.specs.Links.{Known, Counts, NeverFall, Dials, Sends, Gets};
+    ghost use Rattle.cc_link.specs.Links.{Known, Counts, always_goes, any_answer, to_dial, to_send, to_receive, GoesOn, NeverFall, Dials, Sends, Gets};
     ghost use Rattle.cc_link.specs.Honest.{LinkOwes, IsUp, TakesSome, GivesSome};
     ghost use Rattle.cc_link.specs.CannedBytes.{known_of, counts_of, IsNever, SendsCanned, GetsCanned, never_tells, never_trusts};
 
@@ -79,6 +79,10 @@ impl Link for CannedLink {
 
     ghost prompt = { IsNever };
 
+    ghost going = { always_goes };
+
+    ghost last = { any_answer };
+
     ghost tells = { never_tells };
 
     ghost trusts = { never_trusts };
@@ -88,6 +92,8 @@ impl Link for CannedLink {
         ensures known { known_of self.new ≡ known_of self.old }
         ensures counts { NeverFall (counts_of self.old) (counts_of self.new) }
         ensures honest { IsNever self.old ↔ IsNever self.new }
+        ensures last { always_goes self.old → any_answer self.new (to_dial result) }
+        ensures going { always_goes self.old → GoesOn (to_dial result) → always_goes self.new }
         ensures up { IsNever self.old → IsUp result }
         ensures prompt { IsNever self.old → result ≢ Dialed.Memory → IsNever self.new }
         ensures exact { (result ≡ Dialed.Up) × (self.new ≡ self.old) }
@@ -100,6 +106,8 @@ impl Link for CannedLink {
         ensures sends { Sends (known_of self.old) (counts_of self.old) bytes.now result (known_of self.new) (counts_of self.new) }
         ensures counts { NeverFall (counts_of self.old) (counts_of self.new) }
         ensures honest { IsNever self.old ↔ IsNever self.new }
+        ensures last { always_goes self.old → any_answer self.new (to_send result) }
+        ensures going { always_goes self.old → GoesOn (to_send result) → always_goes self.new }
         ensures some { IsNever self.old → TakesSome result }
         ensures prompt { IsNever self.old → result ≢ Sent.Memory → IsNever self.new }
         ensures exact { SendsCanned self.old bytes.now result self.new }
@@ -117,6 +125,8 @@ impl Link for CannedLink {
         ensures gets { Gets (known_of self.old) (counts_of self.old) room result (known_of self.new) (counts_of self.new) }
         ensures counts { NeverFall (counts_of self.old) (counts_of self.new) }
         ensures honest { IsNever self.old ↔ IsNever self.new }
+        ensures last { always_goes self.old → any_answer self.new (to_receive result) }
+        ensures going { always_goes self.old → GoesOn (to_receive result) → always_goes self.new }
         ensures owed { IsNever self.old → LinkOwes (known_of self.old) → GivesSome result }
         ensures prompt { IsNever self.old → result ≢ Got.Memory → IsNever self.new }
         ensures exact { GetsCanned self.old room result self.new }

@@ -1,7 +1,7 @@
 //! What a link is.
 
 ghost use Rattle.std.specs.Prelude.{◌≡◌, ◌≢◌, ◌↔◌, ◌<◌, ◌≤◌, length};
-ghost use Rattle.cc_link.specs.Links.{Known, Counts, NeverFall, Dials, Sends, Gets};
+ghost use Rattle.cc_link.specs.Links.{Known, Counts, Answer, to_dial, to_send, to_receive, GoesOn, NeverFall, Dials, Sends, Gets};
 ghost use Rattle.cc_link.specs.Honest.{IsHonestLink, LinkOwes, IsUp, TakesSome, GivesSome};
 
 use cc_meaning::lists::Bytes;
@@ -48,12 +48,21 @@ pub trait Link {
     /// Holds of an honest link that tells that it delays, cuts and fails nothing.
     ghost prompt: { Self → Type 0 };
 
+    /// Holds as long as each call on it went on: none failed, gave the end or wanted memory. A link that doesn't keep its answers may let this and `last` hold
+    /// always: who calls links of any kind knows no more of them than its own calls say.
+    ghost going: { Self → Type 0 };
+
+    /// Holds of what the last call on it answered, where each before it went on.
+    ghost last: { Self → Answer → Type 0 };
+
     /// Makes the link to the far side at a place. The bytes sent and got stay as they are.
     fn dial(&mut self, place: &str) -> Dialed
         ensures dials { Dials (counts self.old) result (counts self.new) }
         ensures known { known self.new ≡ known self.old }
         ensures counts { NeverFall (counts self.old) (counts self.new) }
         ensures honest { honest self.old ↔ honest self.new }
+        ensures last { going self.old → last self.new (to_dial result) }
+        ensures going { going self.old → GoesOn (to_dial result) → going self.new }
         ensures up { prompt self.old → IsUp result }
         ensures prompt { prompt self.old → result ≢ Dialed.Memory → prompt self.new };
 
@@ -63,6 +72,8 @@ pub trait Link {
         ensures sends { Sends (known self.old) (counts self.old) bytes.now result (known self.new) (counts self.new) }
         ensures counts { NeverFall (counts self.old) (counts self.new) }
         ensures honest { honest self.old ↔ honest self.new }
+        ensures last { going self.old → last self.new (to_send result) }
+        ensures going { going self.old → GoesOn (to_send result) → going self.new }
         ensures some { prompt self.old → TakesSome result }
         ensures prompt { prompt self.old → result ≢ Sent.Memory → prompt self.new };
 
@@ -73,6 +84,8 @@ pub trait Link {
         ensures gets { Gets (known self.old) (counts self.old) room result (known self.new) (counts self.new) }
         ensures counts { NeverFall (counts self.old) (counts self.new) }
         ensures honest { honest self.old ↔ honest self.new }
+        ensures last { going self.old → last self.new (to_receive result) }
+        ensures going { going self.old → GoesOn (to_receive result) → going self.new }
         // While a clone says more to what was sent than was got, there is some of it.
         ensures owed { prompt self.old → LinkOwes (known self.old) → GivesSome result }
         ensures prompt { prompt self.old → result ≢ Got.Memory → prompt self.new };

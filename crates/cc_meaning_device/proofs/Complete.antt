@@ -54,16 +54,16 @@ rest_front goes_on again frames part are front = by (frames_of part).ending refl
 same_ok : {A B : Type 0} {x y : A} {r : Result A B} → r ≡ Ok x → r ≡ Ok y → x ≡ y
 same_ok e f = let both = sym e ∙ f in cc
 
-all_itself : (plain : Plain) (images : List RunImage) → AllByRecursion (IsSendable plain) images → AllByRecursion (IsReadAsItself plain) images
+pub all_itself : (plain : Plain) (images : List RunImage) → AllByRecursion (IsSendable plain) images → AllByRecursion (IsReadAsItself plain) images
 all_itself plain [] h = tt
 all_itself plain (image ∷ images) h = ((λ other read. (same_ok read h.0.read, h.0.is_run)), all_itself plain images h.1)
 
-all_fit : (plain : Plain) (images : List RunImage) → AllByRecursion (IsSendable plain) images → AllByRecursion (λ image. IsFrame (run_frame image)) images
+pub all_fit : (plain : Plain) (images : List RunImage) → AllByRecursion (IsSendable plain) images → AllByRecursion (λ image. IsFrame (run_frame image)) images
 all_fit plain [] h = tt
 all_fit plain (image ∷ images) h = (h.0.fits, all_fit plain images h.1)
 
 -- each is answered
-all_answered : (plain : Plain) (images : List RunImage) → AllByRecursion (IsSendable plain) images → answers plain images ≡ map (back_frame plain) images
+pub all_answered : (plain : Plain) (images : List RunImage) → AllByRecursion (IsSendable plain) images → answers plain images ≡ map (back_frame plain) images
 unfolding answers
 all_answered plain [] h = refl
 all_answered plain (image ∷ images) h = ap (answer_by plain (answers plain images)) h.0.read ∙ ap (λ (frames : List Frame). back_frame plain image ∷ frames) (all_answered plain images h.1)

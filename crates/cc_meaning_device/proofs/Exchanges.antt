@@ -159,24 +159,32 @@ front_of_nothing : (xs : List ℕ) → IsPrefixOf xs [] → xs ≡ []
 front_of_nothing [] e = refl
 front_of_nothing (x ∷ xs) e = absurd (let bad = e.1 in cc)
 
+-- ---- what is asked
+
+abbrev pub hello_frame : List ℕ → Frame
+hello_frame hello = record { kind = hello_kind; payload = hello }
+
+requests_are_frames : (hello : List ℕ) (images : List RunImage) → length hello ≤ 67108864 → AllByRecursion (λ image. IsFrame (run_frame image)) images → AllByRecursion IsFrame (hello_frame hello ∷ map run_frame images)
+requests_are_frames hello images short frames = (record { low = omega arith; high = omega arith; short = short }, runs_are_frames images frames)
+
+requests_read : IsReadAgain → (hello : List ℕ) (images : List RunImage) → length hello ≤ 67108864 → AllByRecursion (λ image. IsFrame (run_frame image)) images → (frames_of (requests hello images)).frames ≡ hello_frame hello ∷ map run_frame images
+requests_read again hello images short frames =
+    let all = hello_frame hello ∷ map run_frame images in
+    ap (λ (bytes : List ℕ). (frames_of bytes).frames) (spelled_requests hello images ∙ sym (append-nil (flat_map spelling all)))
+    ∙ ap (λ (fs : Frames). fs.frames) (again all [] (requests_are_frames hello images short frames)) ∙ ap (λ (fs : Frames). all ++ fs.frames) nothing_comes ∙ append-nil all
+
+-- what a clone of the file says to all of it
+pub says_in_all : IsReadAgain → (plain : Plain) (hello : List ℕ) (images : List RunImage) → length hello ≤ 67108864 → AllByRecursion (λ image. IsFrame (run_frame image)) images →
+    says (plain_clone (Ok plain)) (Open Waiting []) (requests hello images) ≡ flat_map spelling (ready_frame ∷ answers plain images)
+says_in_all again plain hello images short frames =
+    ap (λ (fs : List Frame). replies_to (plain_clone (Ok plain)) (Ok Waiting) fs) (requests_read again hello images short frames) ∙ says_all plain hello images
+
 module _ (goes_on : GoesOn) (again : IsReadAgain) (file : List ℕ) (plain : Plain) (images : List RunImage) (got : List ℕ) (x : IsExchange plain images got) (frames : AllByRecursion (λ image. IsFrame (run_frame image)) images) where
-  abbrev hello_frame : Frame
-  hello_frame = record { kind = hello_kind; payload = x.hello }
-
-  requests_are_frames : AllByRecursion IsFrame (hello_frame ∷ map run_frame images)
-  requests_are_frames = (record { low = omega arith; high = omega arith; short = x.hello_is_short }, runs_are_frames images frames)
-
-  requests_read : (frames_of (requests x.hello images)).frames ≡ hello_frame ∷ map run_frame images
-  requests_read =
-      let all = hello_frame ∷ map run_frame images in
-      ap (λ (bytes : List ℕ). (frames_of bytes).frames) (spelled_requests x.hello images ∙ sym (append-nil (flat_map spelling all)))
-      ∙ ap (λ (fs : Frames). fs.frames) (again all [] requests_are_frames) ∙ ap (λ (fs : Frames). all ++ fs.frames) nothing_comes ∙ append-nil all
-
   -- the first frame that was sent is the Hello, so its verdict is the right one
   pub verdict_is : JudgedOnce → PlainOnce → (first : Frame) (rest : List Frame) → (frames_of x.sent).frames ≡ first ∷ rest → x.verdict ≡ Ok plain
   verdict_is once plain_once first rest e =
-      let front = read_front goes_on again (hello_frame ∷ map run_frame images) x.sent requests_are_frames (x.is_sent.0, x.is_sent.1 ∙ spelled_requests x.hello images) in
-      let same : first ≡ hello_frame = first_same first hello_frame (rest ++ front.0) (map run_frame images) (sym (ap (λ (fs : List Frame). fs ++ front.0) e) ∙ front.1) in
+      let front = read_front goes_on again (hello_frame x.hello ∷ map run_frame images) x.sent (requests_are_frames x.hello images x.hello_is_short frames) (x.is_sent.0, x.is_sent.1 ∙ spelled_requests x.hello images) in
+      let same : first ≡ hello_frame x.hello = first_same first (hello_frame x.hello) (rest ++ front.0) (map run_frame images) (sym (ap (λ (fs : List Frame). fs ++ front.0) e) ∙ front.1) in
       let judged_first : IsJudgedFirst (first ∷ rest) x.verdict = subst (λ (fs : List Frame). IsJudgedFirst fs x.verdict) e x.is_verdict in
       let judged : IsJudged x.hello x.verdict = subst (λ (payload : List ℕ). IsJudged payload x.verdict) (ap (λ (f : Frame). f.payload) same) (judged_first (ap (λ (f : Frame). f.kind) same)) in
       once plain_once x.hello x.verdict (Ok plain) judged (accepted plain x.is_hello)
@@ -189,7 +197,7 @@ module _ (goes_on : GoesOn) (again : IsReadAgain) (file : List ℕ) (plain : Pla
       let all : says (plain_clone x.verdict) (Open Waiting []) (x.sent ++ x.is_sent.0) ≡ flat_map spelling (ready_frame ∷ answers plain images) =
       ap (λ (bytes : List ℕ). says (plain_clone x.verdict) (Open Waiting []) bytes) x.is_sent.1
       ∙ ap (λ (v : Result Plain ℕ). says (plain_clone v) (Open Waiting []) (requests x.hello images)) verdict
-      ∙ ap (λ (fs : List Frame). replies_to (plain_clone (Ok plain)) (Ok Waiting) fs) requests_read ∙ says_all plain x.hello images in
+      ∙ says_in_all again plain x.hello images x.hello_is_short frames in
       (front.0, front.1 ∙ all)
 
   -- where the Hello didn't come whole, nothing was got

@@ -10,7 +10,9 @@ pub mod Honest
 pub mod RightAnswers
 pub mod Kept
 pub mod Merges
+pub mod MovedCalls
 pub mod Noted
+pub mod Owed
 pub mod Received
 pub mod Transparent
 pub mod Worked

@@ -20,7 +20,7 @@ use Rattle.cc_meaning_device.specs.Complete.{MergesEach}
 abbrev Counted : Received → Type 0
 Counted t = t.fallen ≡ false → t.merged ≡ length t.images
 
-one_longer : (images : List RunImage) (image : RunImage) → length (images ++ image ∷ []) ≡ suc (length images)
+pub one_longer : (images : List RunImage) (image : RunImage) → length (images ++ image ∷ []) ≡ suc (length images)
 one_longer [] image = refl
 one_longer (other ∷ images) image = ap suc (one_longer images image)
 

@@ -9,7 +9,7 @@ ghost use Rattle.cc_meaning_device.specs.Straight.{PlainOffloads};
 ghost use Rattle.cc_meaning_device.specs.Entries.{EntryIsRun, EntryIsShort, FunctionsAreFew};
 ghost use Rattle.cc_meaning_device.specs.Honest.{HonestIsLocal, StreamAnswersInOrder};
 ghost use Rattle.cc_meaning_device.specs.Transparent.{NotedIsRead, CloneIsTransparent};
-ghost use Rattle.cc_meaning_device.specs.Complete.{StreamComesInOrder, NotedIsAnswered, MergesEach};
+ghost use Rattle.cc_meaning_device.specs.Complete.{StreamComesInOrder, StreamIsOwed, NotedIsAnswered, MergesEach, EachCallMigrates};
 ghost use Rattle.cc_meaning_device.specs.WorkedStraight.{GoesStraight};
 ghost use Rattle.cc_meaning_device.specs.WorkedAnswers.{JudgesAnswers};
 ghost use Rattle.cc_meaning_device.specs.Worked.{FollowsTheFrames, JudgesTheFrames, StopsWithin, CallsTwice};
@@ -125,6 +125,16 @@ pub fn law_stream_comes()
     run_laws::backs_are_short();
 }
 
+/// Where all was sent and a frame is missing, a clone of the plain file says more than was got.
+pub fn law_stream_owes()
+    ensures { StreamIsOwed }
+{
+    frame_laws::is_read_again();
+    run_laws::runs_have_parts();
+    run_laws::answered_is();
+    run_laws::backs_are_short();
+}
+
 /// Each image that a plain file's run notes may be sent, and its Back is read as one of that Run.
 pub fn law_noted_is_answered()
     ensures { NotedIsAnswered }
@@ -143,6 +153,14 @@ pub fn law_merges_each()
     ensures { MergesEach }
 {
     law_plain_offloads();
+}
+
+/// Where it returned besides, that is one for each call of a moved function in `main`.
+pub fn law_each_call_migrates()
+    ensures { EachCallMigrates }
+{
+    law_plain_offloads();
+    law_merges_each();
 }
 
 /// The run over received frames, at a worked example: a moved function adds 1 to 5, once or twice.

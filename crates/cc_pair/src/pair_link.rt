@@ -264,7 +264,7 @@ impl PairLink {
 
 impl Link for PairLink {
     ghost use Rattle.std.specs.Prelude.{◌≡◌, ◌≢◌, ◌↔◌, ◌≤◌, ◌<◌, length};
-    ghost use Rattle.cc_link.specs.Links.{NeverFall, Dials, Sends, Gets};
+    ghost use Rattle.cc_link.specs.Links.{always_goes, any_answer, to_dial, to_send, to_receive, GoesOn, NeverFall, Dials, Sends, Gets};
     ghost use Rattle.cc_link.specs.Honest.{LinkOwes, IsUp, TakesSome, GivesSome};
     ghost use Rattle.cc_pair.specs.Pairs.{known_of, counts_of};
     ghost use Rattle.cc_pair.specs.Calls.{DialsPair, SendsPair, GetsPair};
@@ -278,6 +278,10 @@ impl Link for PairLink {
 
     ghost prompt = { IsPrompt };
 
+    ghost going = { always_goes };
+
+    ghost last = { any_answer };
+
     ghost tells = { fair_tells };
 
     ghost trusts = { prompt_trusts };
@@ -288,6 +292,8 @@ impl Link for PairLink {
         ensures known { known_of self.new ≡ known_of self.old }
         ensures counts { NeverFall (counts_of self.old) (counts_of self.new) }
         ensures honest { IsFair self.old ↔ IsFair self.new }
+        ensures last { always_goes self.old → any_answer self.new (to_dial result) }
+        ensures going { always_goes self.old → GoesOn (to_dial result) → always_goes self.new }
         ensures up { IsPrompt self.old → IsUp result }
         ensures prompt { IsPrompt self.old → result ≢ Dialed.Memory → IsPrompt self.new }
         ensures exact { DialsPair self.old result self.new }
@@ -309,6 +315,8 @@ impl Link for PairLink {
         ensures sends { Sends (known_of self.old) (counts_of self.old) bytes.now result (known_of self.new) (counts_of self.new) }
         ensures counts { NeverFall (counts_of self.old) (counts_of self.new) }
         ensures honest { IsFair self.old ↔ IsFair self.new }
+        ensures last { always_goes self.old → any_answer self.new (to_send result) }
+        ensures going { always_goes self.old → GoesOn (to_send result) → always_goes self.new }
         ensures some { IsPrompt self.old → TakesSome result }
         ensures prompt { IsPrompt self.old → result ≢ Sent.Memory → IsPrompt self.new }
         ensures exact { SendsPair self.old bytes.now result self.new }
@@ -327,6 +335,8 @@ impl Link for PairLink {
         ensures gets { Gets (known_of self.old) (counts_of self.old) room result (known_of self.new) (counts_of self.new) }
         ensures counts { NeverFall (counts_of self.old) (counts_of self.new) }
         ensures honest { IsFair self.old ↔ IsFair self.new }
+        ensures last { always_goes self.old → any_answer self.new (to_receive result) }
+        ensures going { always_goes self.old → GoesOn (to_receive result) → always_goes self.new }
         ensures owed { IsPrompt self.old → LinkOwes (known_of self.old) → GivesSome result }
         ensures prompt { IsPrompt self.old → result ≢ Got.Memory → IsPrompt self.new }
         ensures exact { GetsPair self.old room result self.new }

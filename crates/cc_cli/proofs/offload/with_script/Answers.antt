@@ -1,8 +1,7 @@
 use Rattle.std.proofs.Common.{◌≡◌, []}
 use Rattle.cc_outside.specs.Shelves as shelf
 use Rattle.cc_plan.specs.declared.plan.Plan.{Plan}
-use Rattle.cc_link.specs.Honest.{told}
-use Rattle.cc_cli.specs.Offloading.{all_names, longest_text, ScriptPlan}
+use Rattle.cc_cli.specs.Offloading.{tells_of, all_names, longest_text, ScriptPlan}
 use Rattle.cc_cli.proofs.Offloading.{then_read, on_known}
 use Rattle.cc_cli.proofs.offload.with_script.Goals as goal
 
@@ -12,15 +11,14 @@ returns-in-Ok-clause-plan g c =
     let b = g.L.Link.counts c.args.link.now in
     let k' = g.L.Link.known c.by_script.new.link in
     let a = g.L.Link.counts c.by_script.new.link in
-    let U : Type 0 = c.by_script.new.link ≡ c.args.link.now in
-    let T : Type 0 = g.L.Link.honest c.args.link.now × (k ≡ told [] []) in
+    let t = tells_of g.L.Link.known g.L.Link.honest g.L.Link.prompt g.L.Link.going g.L.Link.last c.args.link.now c.by_script.new.link in
     let n = c.args.names.now in
     let files = g.S.Shelf.known c.args.shelf.now in
     let middle = g.S.Shelf.counts c.read.new.self in
     let new = g.S.Shelf.counts c.by_script.new.shelf in
     let P : shelf.Known → Plan → Type 0 = λ known plan.
-    ScriptPlan (all_names n.file.now n.script.now n.partition.now n.place.now) known new k b k' a U T c.args.file c.args.plain.now plan c.as_slice.result.now middle in
-    then_read files (g.S.Shelf.counts c.args.shelf.now) n.script.now longest_text new middle U
-    (ScriptPlan (all_names n.file.now n.script.now n.partition.now n.place.now) files new k b k' a U T c.args.file c.args.plain.now)
+    ScriptPlan (all_names n.file.now n.script.now n.partition.now n.place.now) known new k b k' a t c.args.file c.args.plain.now plan c.as_slice.result.now middle in
+    then_read files (g.S.Shelf.counts c.args.shelf.now) n.script.now longest_text new middle t.untouched
+    (ScriptPlan (all_names n.file.now n.script.now n.partition.now n.place.now) files new k b k' a t c.args.file c.args.plain.now)
     c.in-Ok.script c.as_slice.result.now c.by_script.result c.as_slice.ensures c.in-Ok.ensures.reads c.in-Ok.ensures.counts
     (on_known files (g.S.Shelf.known c.read.new.self) c.by_script.result P c.in-Ok.ensures.known c.by_script.ensures.plan)

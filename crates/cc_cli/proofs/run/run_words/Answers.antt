@@ -1,5 +1,5 @@
 use Rattle.std.proofs.Common.{string_bytes, map, refl, ◌≡◌, []}
-use Rattle.cc_link.specs.Honest.{told}
+use Rattle.cc_cli.specs.Offloading.{tells_of}
 use Rattle.cc_cli.specs.Runs.{Outside}
 use Rattle.cc_cli.proofs.Statuses.{statuses, no_plan, transparent}
 use Rattle.cc_cli.proofs.run.run_words.Goals as goal
@@ -8,38 +8,33 @@ pub returns-in-Some-clause-statuses : goal.returns-in-Some-clause-statuses
 returns-in-Some-clause-statuses g c =
     let old : Outside = record { known = g.S.Shelf.known c.args.shelf.now; counts = g.S.Shelf.counts c.args.shelf.now; link = g.L.Link.known c.args.link.now; calls = g.L.Link.counts c.args.link.now; out = g.O.Sink.pipe c.args.out.now; notes = g.N.Sink.pipe c.args.notes.now } in
     let new : Outside = record { known = g.S.Shelf.known c.plan.new.shelf; counts = g.S.Shelf.counts c.plan.new.shelf; link = g.L.Link.known c.plan.new.link; calls = g.L.Link.counts c.plan.new.link; out = g.O.Sink.pipe c.carry_out.new.out; notes = g.N.Sink.pipe c.carry_out.new.notes } in
-    let U : Type 0 = c.plan.new.link ≡ c.args.link.now in
-    let T : Type 0 = g.L.Link.honest c.args.link.now × (g.L.Link.known c.args.link.now ≡ told [] []) in
-    statuses c.law_plain_once.ensures (map string_bytes c.args.words.now) old new c.carry_out.result U T (c.in-Some.plan, c.in-Some.ensures.plan, c.carry_out.ensures.ends)
+    let t = tells_of g.L.Link.known g.L.Link.honest g.L.Link.prompt g.L.Link.going g.L.Link.last c.args.link.now c.plan.new.link in
+    statuses c.law_plain_once.ensures (map string_bytes c.args.words.now) old new c.carry_out.result t (c.in-Some.plan, c.in-Some.ensures.plan, c.carry_out.ensures.ends)
 
 pub returns-in-None-clause-runs : goal.returns-in-None-clause-runs
 returns-in-None-clause-runs g c =
     let old : Outside = record { known = g.S.Shelf.known c.args.shelf.now; counts = g.S.Shelf.counts c.args.shelf.now; link = g.L.Link.known c.args.link.now; calls = g.L.Link.counts c.args.link.now; out = g.O.Sink.pipe c.args.out.now; notes = g.N.Sink.pipe c.args.notes.now } in
     let new : Outside = record { known = g.S.Shelf.known c.plan.new.shelf; counts = g.S.Shelf.counts c.plan.new.shelf; link = g.L.Link.known c.plan.new.link; calls = g.L.Link.counts c.plan.new.link; out = g.O.Sink.pipe c.args.out.now; notes = g.N.Sink.pipe c.args.notes.now } in
-    let U : Type 0 = c.plan.new.link ≡ c.args.link.now in
-    let T : Type 0 = g.L.Link.honest c.args.link.now × (g.L.Link.known c.args.link.now ≡ told [] []) in
-    no_plan (map string_bytes c.args.words.now) old new U T refl refl
+    let t = tells_of g.L.Link.known g.L.Link.honest g.L.Link.prompt g.L.Link.going g.L.Link.last c.args.link.now c.plan.new.link in
+    no_plan (map string_bytes c.args.words.now) old new t refl refl
 
 pub returns-in-None-clause-statuses : goal.returns-in-None-clause-statuses
 returns-in-None-clause-statuses g c =
     let old : Outside = record { known = g.S.Shelf.known c.args.shelf.now; counts = g.S.Shelf.counts c.args.shelf.now; link = g.L.Link.known c.args.link.now; calls = g.L.Link.counts c.args.link.now; out = g.O.Sink.pipe c.args.out.now; notes = g.N.Sink.pipe c.args.notes.now } in
     let new : Outside = record { known = g.S.Shelf.known c.plan.new.shelf; counts = g.S.Shelf.counts c.plan.new.shelf; link = g.L.Link.known c.plan.new.link; calls = g.L.Link.counts c.plan.new.link; out = g.O.Sink.pipe c.args.out.now; notes = g.N.Sink.pipe c.args.notes.now } in
-    let U : Type 0 = c.plan.new.link ≡ c.args.link.now in
-    let T : Type 0 = g.L.Link.honest c.args.link.now × (g.L.Link.known c.args.link.now ≡ told [] []) in
-    statuses c.law_plain_once.ensures (map string_bytes c.args.words.now) old new 70 U T (no_plan (map string_bytes c.args.words.now) old new U T refl refl)
+    let t = tells_of g.L.Link.known g.L.Link.honest g.L.Link.prompt g.L.Link.going g.L.Link.last c.args.link.now c.plan.new.link in
+    statuses c.law_plain_once.ensures (map string_bytes c.args.words.now) old new 70 t (no_plan (map string_bytes c.args.words.now) old new t refl refl)
 
 pub returns-in-Some-clause-transparent : goal.returns-in-Some-clause-transparent
 returns-in-Some-clause-transparent g c names e honest fresh =
     let old : Outside = record { known = g.S.Shelf.known c.args.shelf.now; counts = g.S.Shelf.counts c.args.shelf.now; link = g.L.Link.known c.args.link.now; calls = g.L.Link.counts c.args.link.now; out = g.O.Sink.pipe c.args.out.now; notes = g.N.Sink.pipe c.args.notes.now } in
     let new : Outside = record { known = g.S.Shelf.known c.plan.new.shelf; counts = g.S.Shelf.counts c.plan.new.shelf; link = g.L.Link.known c.plan.new.link; calls = g.L.Link.counts c.plan.new.link; out = g.O.Sink.pipe c.carry_out.new.out; notes = g.N.Sink.pipe c.carry_out.new.notes } in
-    let U : Type 0 = c.plan.new.link ≡ c.args.link.now in
-    let T : Type 0 = g.L.Link.honest c.args.link.now × (g.L.Link.known c.args.link.now ≡ told [] []) in
-    transparent c.law_plain_once.ensures (map string_bytes c.args.words.now) old new c.carry_out.result U T (c.in-Some.plan, c.in-Some.ensures.plan, c.carry_out.ensures.ends) names e (honest, fresh)
+    let t = tells_of g.L.Link.known g.L.Link.honest g.L.Link.prompt g.L.Link.going g.L.Link.last c.args.link.now c.plan.new.link in
+    transparent c.law_plain_once.ensures (map string_bytes c.args.words.now) old new c.carry_out.result t (c.in-Some.plan, c.in-Some.ensures.plan, c.carry_out.ensures.ends) names e (honest, fresh)
 
 pub returns-in-None-clause-transparent : goal.returns-in-None-clause-transparent
 returns-in-None-clause-transparent g c names e honest fresh =
     let old : Outside = record { known = g.S.Shelf.known c.args.shelf.now; counts = g.S.Shelf.counts c.args.shelf.now; link = g.L.Link.known c.args.link.now; calls = g.L.Link.counts c.args.link.now; out = g.O.Sink.pipe c.args.out.now; notes = g.N.Sink.pipe c.args.notes.now } in
     let new : Outside = record { known = g.S.Shelf.known c.plan.new.shelf; counts = g.S.Shelf.counts c.plan.new.shelf; link = g.L.Link.known c.plan.new.link; calls = g.L.Link.counts c.plan.new.link; out = g.O.Sink.pipe c.args.out.now; notes = g.N.Sink.pipe c.args.notes.now } in
-    let U : Type 0 = c.plan.new.link ≡ c.args.link.now in
-    let T : Type 0 = g.L.Link.honest c.args.link.now × (g.L.Link.known c.args.link.now ≡ told [] []) in
-    transparent c.law_plain_once.ensures (map string_bytes c.args.words.now) old new 70 U T (no_plan (map string_bytes c.args.words.now) old new U T refl refl) names e (honest, fresh)
+    let t = tells_of g.L.Link.known g.L.Link.honest g.L.Link.prompt g.L.Link.going g.L.Link.last c.args.link.now c.plan.new.link in
+    transparent c.law_plain_once.ensures (map string_bytes c.args.words.now) old new 70 t (no_plan (map string_bytes c.args.words.now) old new t refl refl) names e (honest, fresh)

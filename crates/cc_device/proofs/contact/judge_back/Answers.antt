@@ -1,4 +1,4 @@
-use Rattle.std.proofs.Common.{◌≡◌, ◌∙◌, sym, rules, subst, ap, List, ℕ, Err, Result}
+use Rattle.std.proofs.Common.{◌∙◌, sym, rules, ap, Err, Result}
 use Rattle.cc_meaning.specs.declared.image.BackImage.{BackImage}
 use Rattle.cc_meaning.specs.declared.travel.LinkEnd.{LinkEnd}
 use Rattle.cc_meaning_images.specs.Reading.{read_back}

@@ -1,4 +1,4 @@
-use Rattle.std.proofs.Common.{◌≡◌, ◌∙◌, is_some, arith}
+use Rattle.std.proofs.Common.{◌∙◌, arith}
 use Rattle.cc_device.specs.Travelling.{moves_of}
 use Rattle.cc_device.proofs.Pauses.{begun_paused, begun_on, begun_paused_keeps, begun_on_keeps, keeps_since, if_ok}
 use Rattle.cc_device.proofs.device.begin.Goals as goal

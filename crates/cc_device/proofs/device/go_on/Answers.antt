@@ -1,4 +1,4 @@
-use Rattle.std.proofs.Common.{◌≡◌, ◌∙◌, is_some, arith}
+use Rattle.std.proofs.Common.{◌∙◌, is_some, arith}
 use Rattle.cc_device.proofs.Pauses.{back_paused, back_on, paused_keeps, on_keeps, keeps_since, if_ok}
 use Rattle.cc_device.proofs.device.go_on.Goals as goal
 

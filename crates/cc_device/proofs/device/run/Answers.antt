@@ -1,6 +1,5 @@
-use Rattle.std.proofs.Common.{◌≡◌, ◌∙◌, ap, sym, is_some, drop, List, Option, ℕ, subst}
-use Rattle.cc_machine.specs.Going.{Went, goes}
-use Rattle.cc_device.specs.Travelling.{stops_in}
+use Rattle.std.proofs.Common.{◌∙◌, ap, is_some, drop, Option, ℕ}
+use Rattle.cc_machine.specs.Going.{goes}
 use Rattle.cc_device.proofs.Pauses.{went_course, went_keeps}
 use Rattle.cc_device.proofs.device.run.Goals as goal
 

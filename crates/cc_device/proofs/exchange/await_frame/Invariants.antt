@@ -13,6 +13,8 @@ invariant-awaiting g l = record {
   waits : RoseBy (l.patience - l.left) (g.L.Link.counts l.fn.link).waits (g.L.Link.counts l.link).waits;
   counts : NeverFall (g.L.Link.counts l.fn.link) (g.L.Link.counts l.link);
   honest : g.L.Link.honest l.fn.link ↔ g.L.Link.honest l.link;
+  prompt : g.L.Link.prompt l.fn.link → g.L.Link.prompt l.link;
+  going : g.L.Link.going l.fn.link → g.L.Link.going l.link;
 }
 
 abbrev pub decreases-awaiting : goal.decreases-awaiting

@@ -1,5 +1,4 @@
-use Rattle.std.proofs.Common.{◌≡◌, ◌≤◌, ◌-◌, ◌∙◌, sym, subst, List, ℕ, rules, arith}
-use Rattle.cc_outside.specs.Counting.{RoseBy}
+use Rattle.std.proofs.Common.{◌-◌, sym, subst, List, ℕ}
 use Rattle.cc_device.specs.Exchanging.{IsSent}
 use Rattle.cc_device.proofs.Exchanges.{sent_more, never_fall, rose_kept}
 use Rattle.cc_device.proofs.exchange.send_all.Goals as goal
@@ -16,4 +15,6 @@ sending-preserved-in-Took g c =
       stalls = rose_kept (c.args.patience - c.sending.left) (counts c.args.link.now).stalls (counts c.sending.link).stalls (counts c.send.new.self).stalls before.stalls c.send.ensures.counts.stalls;
       counts = never_fall _ _ _ before.counts c.send.ensures.counts;
       honest = (λ h. c.send.ensures.honest.0 (before.honest.0 h), λ h. before.honest.1 (c.send.ensures.honest.1 h));
+      prompt = λ p. c.in-Took.ensures.prompt (before.prompt p) (λ e. absurd cc);
+      going = λ goes. c.in-Took.ensures.going (before.going goes) tt;
     }

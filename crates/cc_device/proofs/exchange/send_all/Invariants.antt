@@ -1,4 +1,4 @@
-use Rattle.std.proofs.Common.{◌≡◌, ◌↔◌, ◌+◌, ◌-◌, ◌≤◌, length}
+use Rattle.std.proofs.Common.{◌↔◌, ◌+◌, ◌-◌, ◌≤◌, length}
 use Rattle.cc_outside.specs.Counting.{RoseBy}
 use Rattle.cc_link.specs.Links.{NeverFall}
 use Rattle.cc_device.specs.Exchanging.{IsSent}
@@ -12,6 +12,8 @@ invariant-sending g l = record {
   stalls : RoseBy (l.patience - l.left) (g.L.Link.counts l.fn.link).stalls (g.L.Link.counts l.link).stalls;
   counts : NeverFall (g.L.Link.counts l.fn.link) (g.L.Link.counts l.link);
   honest : g.L.Link.honest l.fn.link ↔ g.L.Link.honest l.link;
+  prompt : g.L.Link.prompt l.fn.link → g.L.Link.prompt l.link;
+  going : g.L.Link.going l.fn.link → g.L.Link.going l.link;
 }
 
 abbrev pub decreases-sending : goal.decreases-sending
