@@ -4,5 +4,7 @@
 mod name_laws;
 mod reference;
 
-pub use name_laws::{one_class_names, one_texts, spelled_once, spells_by_parts};
+pub use name_laws::{
+    listed_types_spelled, one_class_names, one_texts, spelled_once, spells_by_parts,
+};
 pub use reference::Reference;
