@@ -4,3 +4,4 @@ pub mod Spelling
 pub mod BodyRuns
 pub mod BodyFaultLaws
 pub mod CodeSizeLaws
+pub mod ListedTypes

@@ -12,7 +12,7 @@ use Rattle.cc_meaning_program.proofs.Rising.{one_place}
 
 -- ---- dimensions
 
-dims_of_class : (name : List ℕ) → names_class name ≡ true → dims_of name ≡ 0
+pub dims_of_class : (name : List ℕ) → names_class name ≡ true → dims_of name ≡ 0
 unfolding dims_of
 dims_of_class [] class = refl
 dims_of_class (u ∷ us) class =
@@ -29,12 +29,12 @@ dims_of_base names base.Int is = refl
 dims_of_base names base.Long is = refl
 dims_of_base names (base.Class class) is = dims_of_class (get_or names class []) is
 
-dims_of_spelled : (dims : ℕ) (name : List ℕ) → dims_of name ≡ 0 → dims_of (replicate dims 91 ++ name) ≡ dims
+pub dims_of_spelled : (dims : ℕ) (name : List ℕ) → dims_of name ≡ 0 → dims_of (replicate dims 91 ++ name) ≡ dims
 unfolding dims_of
 dims_of_spelled zero name plain = plain
 dims_of_spelled (suc n) name plain = let rest : dims_of (replicate n 91 ++ name) ≡ n = dims_of_spelled n name plain in omega arith
 
-behind_spelled : (dims : ℕ) (name : List ℕ) → drop dims (replicate dims 91 ++ name) ≡ name
+pub behind_spelled : (dims : ℕ) (name : List ℕ) → drop dims (replicate dims 91 ++ name) ≡ name
 behind_spelled zero name = refl
 behind_spelled (suc n) name = behind_spelled n name
 

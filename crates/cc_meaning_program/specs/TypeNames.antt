@@ -1,11 +1,14 @@
 -- Types by their descriptors, where the classes are given by their names in order.
-use Rattle.std.specs.Prelude.{◌≡◌, ◌↔◌, ℕ, ◌≤◌, true, List, [], ◌++◌, Option, Some, None, slice_index_or, replicate, codes}
+use Rattle.std.specs.Prelude.{◌≡◌, ◌↔◌, ℕ, ◌<◌, ◌≤◌, true, List, length, [], ◌++◌, Option, Some, None, slice_index_or, replicate, codes}
+use Rattle.cc_meaning.specs.declared.file.Ids.{Ids}
 use Rattle.cc_meaning.specs.declared.program.Base.{Base}
 use Rattle.cc_meaning.specs.declared.program.Base.TheVariants as base
 use Rattle.cc_meaning.specs.declared.program.DexType.{DexType}
 use Rattle.cc_meaning.specs.Order.{IsRising}
-use Rattle.cc_meaning_file.specs.Descriptors.{dims_of, names_class}
-use Rattle.cc_meaning_program.specs.ClassNames.{base_name}
+use Rattle.cc_meaning_file.specs.Descriptors.{dims_of, names_class, IsValueDescriptor}
+use Rattle.cc_meaning_program.specs.Named.{type_name}
+use Rattle.cc_meaning_program.specs.ClassNames.{base_name, AreClassNames}
+use Rattle.cc_meaning_program.specs.References.{IsFloating}
 
 unfoldable pub base_spelled : List (List ℕ) → Base → List ℕ
 base_spelled names base.Boolean = codes "Z"
@@ -50,3 +53,8 @@ SpellsByParts = (names : List (List ℕ)) (type : DexType) (descriptor : List �
 -- where names rise, a descriptor is spelled by one type at most
 abbrev pub SpelledOnce : Type 0
 SpelledOnce = (names : List (List ℕ)) → IsRising names → (this that : DexType) (descriptor : List ℕ) → Spells names this descriptor → Spells names that descriptor → this ≡ that
+
+-- Among the names of a file's classes, a type that the file lists is spelled where it is neither V nor of floating point.
+abbrev pub ListedTypesSpelled : Type 0
+ListedTypesSpelled = (ids : Ids) (names : List (List ℕ)) → AreClassNames ids names → (row : ℕ) → row < length ids.types → IsValueDescriptor (type_name ids row) → ¬ IsFloating (type_name ids row) →
+    (type : DexType) × Spells names type (type_name ids row)

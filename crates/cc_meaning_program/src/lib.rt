@@ -11,5 +11,7 @@ pub use body_laws::{
     one_reading, sound_bodies_have_none, sound_code, spelled_code_is_small, stand_to_end,
 };
 pub use class_laws::{one_class_fault, sound_classes_have_no_fault, sound_classes_leave};
-pub use name_laws::{one_class_names, one_texts, spelled_once, spells_by_parts};
+pub use name_laws::{
+    listed_types_spelled, one_class_names, one_texts, spelled_once, spells_by_parts,
+};
 pub use reference::Reference;

@@ -13,24 +13,24 @@ use Rattle.cc_meaning_file.specs.Descriptors.{names_class, names_reference}
 use Rattle.cc_meaning_program.specs.Named.{text_of, type_name}
 use Rattle.cc_meaning_program.specs.ClassNames.{base_name, texts_name, IsClassName, AreClassNames, listed, element, built_in, texts}
 use Rattle.cc_names.specs.declared.classes.Candidate.{Candidate}
-use Rattle.cc_names.specs.declared.classes.Candidate.TheVariants.{Whole, Base, Every}
+use Rattle.cc_names.specs.declared.classes.Candidate.TheVariants.{Whole, Base, Known}
 use Rattle.cc_names.specs.InOrder.{AreInOrder}
-use Rattle.cc_names.specs.Candidates.{every_name, candidate_name, whole_of, base_of, candidates_of}
+use Rattle.cc_names.specs.Candidates.{known_names, candidate_name, whole_of, base_of, candidates_of}
 use Rattle.cc_names.proofs.Ordered.{contains_mapped, mapped_from}
 
 -- ---- names that every program has
 
-one_more : (ids : Ids) (every : List (List ℕ)) (number : ℕ) → number < length every → candidate_name ids every (Every number) ≡ get_or every number []
+one_more : (ids : Ids) (known : List (List ℕ)) (number : ℕ) → number < length known → candidate_name ids known (Known number) ≡ get_or known number []
 unfolding candidate_name
-one_more ids every number within = ap (λ name. unwrap_or name []) (slice_get-get_or every number [] within)
+one_more ids known number within = ap (λ name. unwrap_or name []) (slice_get-get_or known number [] within)
 
-pub every_more : (ids : Ids) (every before : List (List ℕ)) (all : List Candidate) (number : ℕ) → number < length every →
-    map (candidate_name ids every) all ≡ before ++ take number every → map (candidate_name ids every) (all ++ Every number ∷ []) ≡ before ++ take (number + 1) every
-every_more ids every before all number within so_far =
-    let last = one_more ids every number within in
-    let more = take_more every number [] within in
-    map_push (candidate_name ids every) all (Every number) ∙ ap (λ names. names ++ candidate_name ids every (Every number) ∷ []) so_far
-    ∙ append_assoc before (take number every) (candidate_name ids every (Every number) ∷ []) ∙ ap (λ name. before ++ (take number every ++ name ∷ [])) last ∙ ap (λ names. before ++ names) (sym more)
+pub known_more : (ids : Ids) (known before : List (List ℕ)) (all : List Candidate) (number : ℕ) → number < length known →
+    map (candidate_name ids known) all ≡ before ++ take number known → map (candidate_name ids known) (all ++ Known number ∷ []) ≡ before ++ take (number + 1) known
+known_more ids known before all number within so_far =
+    let last = one_more ids known number within in
+    let more = take_more known number [] within in
+    map_push (candidate_name ids known) all (Known number) ∙ ap (λ names. names ++ candidate_name ids known (Known number) ∷ []) so_far
+    ∙ append_assoc before (take number known) (candidate_name ids known (Known number) ∷ []) ∙ ap (λ name. before ++ (take number known ++ name ∷ [])) last ∙ ap (λ names. before ++ names) (sym more)
 
 -- ---- candidates of the file
 
@@ -39,36 +39,36 @@ pub data Gives (ids : Ids) (row : ℕ) : List ℕ → Type 0 where
   whole : names_reference (text_of ids row) ≡ true → Gives ids row (text_of ids row)
   base : names_class (base_name (text_of ids row)) ≡ true → Gives ids row (base_name (text_of ids row))
 
-whole_given : (ids : Ids) (every : List (List ℕ)) (row : ℕ) (b : Bool) (name : List ℕ) → names_reference (text_of ids row) ≡ b →
-    Contains (map (candidate_name ids every) (cond b (Whole row ∷ []) [])) name → Gives ids row name
+whole_given : (ids : Ids) (known : List (List ℕ)) (row : ℕ) (b : Bool) (name : List ℕ) → names_reference (text_of ids row) ≡ b →
+    Contains (map (candidate_name ids known) (cond b (Whole row ∷ []) [])) name → Gives ids row name
 unfolding candidate_name
-whole_given ids every row true name is (zero, within, same) = subst (Gives ids row) same (whole is)
-whole_given ids every row true name is (suc k, within, same) = absurd (omega arith)
-whole_given ids every row false name is (k, within, same) = absurd (omega arith)
+whole_given ids known row true name is (zero, within, same) = subst (Gives ids row) same (whole is)
+whole_given ids known row true name is (suc k, within, same) = absurd (omega arith)
+whole_given ids known row false name is (k, within, same) = absurd (omega arith)
 
-base_given : (ids : Ids) (every : List (List ℕ)) (row : ℕ) (b : Bool) (name : List ℕ) → names_class (base_name (text_of ids row)) ≡ b →
-    Contains (map (candidate_name ids every) (cond b (Base row ∷ []) [])) name → Gives ids row name
+base_given : (ids : Ids) (known : List (List ℕ)) (row : ℕ) (b : Bool) (name : List ℕ) → names_class (base_name (text_of ids row)) ≡ b →
+    Contains (map (candidate_name ids known) (cond b (Base row ∷ []) [])) name → Gives ids row name
 unfolding candidate_name
-base_given ids every row true name is (zero, within, same) = subst (Gives ids row) same (base is)
-base_given ids every row true name is (suc k, within, same) = absurd (omega arith)
-base_given ids every row false name is (k, within, same) = absurd (omega arith)
+base_given ids known row true name is (zero, within, same) = subst (Gives ids row) same (base is)
+base_given ids known row true name is (suc k, within, same) = absurd (omega arith)
+base_given ids known row false name is (k, within, same) = absurd (omega arith)
 
 -- the names of a row's candidates are those that it gives
-of_row : (ids : Ids) (every : List (List ℕ)) (row : ℕ) (name : List ℕ) → Contains (map (candidate_name ids every) (candidates_of ids row)) name ↔ Gives ids row name
+of_row : (ids : Ids) (known : List (List ℕ)) (row : ℕ) (name : List ℕ) → Contains (map (candidate_name ids known) (candidates_of ids row)) name ↔ Gives ids row name
 unfolding candidates_of whole_of base_of candidate_name
-of_row ids every row name = (
-  λ here. given (Contains-append_cases (map (candidate_name ids every) (whole_of ids row)) (map (candidate_name ids every) (base_of ids row)) name
+of_row ids known row name = (
+  λ here. given (Contains-append_cases (map (candidate_name ids known) (whole_of ids row)) (map (candidate_name ids known) (base_of ids row)) name
       (rw map-append at here)),
   λ gives. rw map-append (named name gives),
 )
   where
-    given : Contains (map (candidate_name ids every) (whole_of ids row)) name ⊎ Contains (map (candidate_name ids every) (base_of ids row)) name → Gives ids row name
-    given (inl here) = whole_given ids every row (names_reference (text_of ids row)) name refl here
-    given (inr here) = base_given ids every row (names_class (base_name (text_of ids row))) name refl here
+    given : Contains (map (candidate_name ids known) (whole_of ids row)) name ⊎ Contains (map (candidate_name ids known) (base_of ids row)) name → Gives ids row name
+    given (inl here) = whole_given ids known row (names_reference (text_of ids row)) name refl here
+    given (inr here) = base_given ids known row (names_class (base_name (text_of ids row))) name refl here
 
-    named : (n : List ℕ) → Gives ids row n → Contains (map (candidate_name ids every) (whole_of ids row) ++ map (candidate_name ids every) (base_of ids row)) n
-    named n (whole is) = Contains-append_left (map (candidate_name ids every) (whole_of ids row)) (map (candidate_name ids every) (base_of ids row)) n (rw is (0, omega arith, refl))
-    named n (base is) = Contains-append_right (map (candidate_name ids every) (whole_of ids row)) (map (candidate_name ids every) (base_of ids row)) n (rw is (0, omega arith, refl))
+    named : (n : List ℕ) → Gives ids row n → Contains (map (candidate_name ids known) (whole_of ids row) ++ map (candidate_name ids known) (base_of ids row)) n
+    named n (whole is) = Contains-append_left (map (candidate_name ids known) (whole_of ids row)) (map (candidate_name ids known) (base_of ids row)) n (rw is (0, omega arith, refl))
+    named n (base is) = Contains-append_right (map (candidate_name ids known) (whole_of ids row)) (map (candidate_name ids known) (base_of ids row)) n (rw is (0, omega arith, refl))
 
 abbrev GivenBy : Ids → List ℕ → List ℕ → Type 0
 GivenBy ids rows name = (row : ℕ) × Contains rows row × Gives ids row name
@@ -84,15 +84,15 @@ named ids names more row rows name rest here other (zero, within, is) gives = Co
 named ids names more row rows name rest here other (suc k, within, is) gives = Contains-append_right names more name (rest.1 (other, (k, omega arith, is), gives))
 
 -- the names of the candidates of rows are those that the rows give
-pub of_rows : (ids : Ids) (every : List (List ℕ)) (rows : List ℕ) (name : List ℕ) →
-    Contains (map (candidate_name ids every) (flat_map (candidates_of ids) rows)) name ↔ GivenBy ids rows name
-of_rows ids every [] name = (λ (k, within, is). absurd (omega arith), λ (row, (k, within, is), gives). absurd (omega arith))
-of_rows ids every (row ∷ rows) name =
-    let rest = of_rows ids every rows name in
-    let here = of_row ids every row name in
-    let names = map (candidate_name ids every) (candidates_of ids row) in
-    let more = map (candidate_name ids every) (flat_map (candidates_of ids) rows) in
-    let parts = map-append (candidate_name ids every) (candidates_of ids row) (flat_map (candidates_of ids) rows) in (
+pub of_rows : (ids : Ids) (known : List (List ℕ)) (rows : List ℕ) (name : List ℕ) →
+    Contains (map (candidate_name ids known) (flat_map (candidates_of ids) rows)) name ↔ GivenBy ids rows name
+of_rows ids known [] name = (λ (k, within, is). absurd (omega arith), λ (row, (k, within, is), gives). absurd (omega arith))
+of_rows ids known (row ∷ rows) name =
+    let rest = of_rows ids known rows name in
+    let here = of_row ids known row name in
+    let names = map (candidate_name ids known) (candidates_of ids row) in
+    let more = map (candidate_name ids known) (flat_map (candidates_of ids) rows) in
+    let parts = map-append (candidate_name ids known) (candidates_of ids row) (flat_map (candidates_of ids) rows) in (
       λ given. either ids names more row rows name rest here (Contains-append_cases names more name (subst (λ names. Contains names name) parts given)),
       λ (other, there, gives). subst (λ names. Contains names name) (sym parts) (named ids names more row rows name rest here other there gives),
     )
@@ -126,21 +126,21 @@ single : (a b : List ℕ) → Contains (a ∷ []) b → a ≡ b
 single a b (zero, within, is) = is
 single a b (suc k, within, is) = absurd (omega arith)
 
-every_is : (name : List ℕ) → Contains every_name name ↔ ((is_built_in name ≡ true) ⊎ (name ≡ texts_name))
-unfolding every_name
-every_is name = (λ here. known (Contains-append_cases (names_of built_in_classes) (texts_name ∷ []) name here), λ is. there is)
+known_is : (name : List ℕ) → Contains known_names name ↔ ((is_built_in name ≡ true) ⊎ (name ≡ texts_name))
+unfolding known_names
+known_is name = (λ here. which (Contains-append_cases (names_of built_in_classes) (texts_name ∷ []) name here), λ is. there is)
   where
-    known : Contains (names_of built_in_classes) name ⊎ Contains (texts_name ∷ []) name → (is_built_in name ≡ true) ⊎ (name ≡ texts_name)
-    known (inl here) = inl ((any_named built_in_classes name).1 here)
-    known (inr here) = inr (sym (single texts_name name here))
+    which : Contains (names_of built_in_classes) name ⊎ Contains (texts_name ∷ []) name → (is_built_in name ≡ true) ⊎ (name ≡ texts_name)
+    which (inl here) = inl ((any_named built_in_classes name).1 here)
+    which (inr here) = inr (sym (single texts_name name here))
 
     there : (is_built_in name ≡ true) ⊎ (name ≡ texts_name) → Contains (names_of built_in_classes ++ texts_name ∷ []) name
     there (inl is) = Contains-append_left (names_of built_in_classes) (texts_name ∷ []) name ((any_named built_in_classes name).0 is)
     there (inr is) = subst (Contains (names_of built_in_classes ++ texts_name ∷ [])) (sym is) (Contains-append_right (names_of built_in_classes) (texts_name ∷ []) texts_name (0, omega arith, refl))
 
-pub count_every : length every_name ≡ 27
-unfolding every_name built_in_classes built_in_plain_classes built_in_throwables
-count_every = refl
+pub count_known : length known_names ≡ 27
+unfolding known_names built_in_classes built_in_plain_classes built_in_throwables
+count_known = refl
 
 -- ---- how many candidates there are
 
@@ -159,11 +159,11 @@ few_listed : (ids : Ids) (rows : List ℕ) → length (flat_map (candidates_of i
 few_listed ids [] = omega arith
 few_listed ids (row ∷ rows) = omega (arith, few_listed ids rows, two_at_most ids row, length-append (candidates_of ids row) (flat_map (candidates_of ids) rows))
 
-pub few_candidates : (ids : Ids) (every : List (List ℕ)) (rows : List ℕ) (listed_all all : List Candidate) → listed_all ≡ flat_map (candidates_of ids) rows →
-    map (candidate_name ids every) all ≡ map (candidate_name ids every) listed_all ++ every → length all ≤ 2 * length rows + length every
-few_candidates ids every rows listed_all all is added =
-    let names = candidate_name ids every in
-    omega (arith, ap length added, length-map all names, length-map listed_all names, length-append (map names listed_all) every, ap length is, few_listed ids rows)
+pub few_candidates : (ids : Ids) (known : List (List ℕ)) (rows : List ℕ) (listed_all all : List Candidate) → listed_all ≡ flat_map (candidates_of ids) rows →
+    map (candidate_name ids known) all ≡ map (candidate_name ids known) listed_all ++ known → length all ≤ 2 * length rows + length known
+few_candidates ids known rows listed_all all is added =
+    let names = candidate_name ids known in
+    omega (arith, ap length added, length-map all names, length-map listed_all names, length-append (map names listed_all) known, ap length is, few_listed ids rows)
 
 -- ---- classes
 
@@ -181,7 +181,7 @@ given_is_class ids row name (type, within, at) (base is) =
     let same = type_name_is ids type row within at in
     subst (λ n. IsClassName ids (base_name n)) same (element within (subst (λ n. names_class (base_name n) ≡ true) (sym same) is))
 
-class_is_given : (ids : Ids) (name : List ℕ) → IsClassName ids name → ((row : ℕ) × Contains ids.types row × Gives ids row name) ⊎ Contains every_name name
+class_is_given : (ids : Ids) (name : List ℕ) → IsClassName ids name → ((row : ℕ) × Contains ids.types row × Gives ids row name) ⊎ Contains known_names name
 class_is_given ids name (listed {type} within is) =
     let text = get_or ids.types type 0 in
     let same = type_name_is ids type text within (get_or_default ids.types type text 0 within) in
@@ -190,36 +190,36 @@ class_is_given ids name (element {type} within is) =
     let text = get_or ids.types type 0 in
     let same = type_name_is ids type text within (get_or_default ids.types type text 0 within) in
     inl (text, Contains-get_or ids.types type 0 within, subst (λ n. Gives ids text (base_name n)) (sym same) (base (subst (λ n. names_class (base_name n) ≡ true) same is)))
-class_is_given ids name (built_in is) = inr ((every_is name).1 (inl is))
-class_is_given ids name texts = inr ((every_is texts_name).1 (inr refl))
+class_is_given ids name (built_in is) = inr ((known_is name).1 (inl is))
+class_is_given ids name texts = inr ((known_is texts_name).1 (inr refl))
 
 -- the candidates' names in order are those of the classes
-pub names_are_classes : (ids : Ids) (every : List (List ℕ)) (rows : List ℕ) (all sorted : List Candidate) → every ≡ every_name → ((row : ℕ) → Contains rows row ↔ Contains ids.types row) →
-    map (candidate_name ids every) all ≡ map (candidate_name ids every) (flat_map (candidates_of ids) rows) ++ every →
-    AreInOrder (candidate_name ids every) all sorted → AreClassNames ids (map (candidate_name ids every) sorted)
-names_are_classes ids every rows all sorted every_known described whole_list are = record {
+pub names_are_classes : (ids : Ids) (known : List (List ℕ)) (rows : List ℕ) (all sorted : List Candidate) → known ≡ known_names → ((row : ℕ) → Contains rows row ↔ Contains ids.types row) →
+    map (candidate_name ids known) all ≡ map (candidate_name ids known) (flat_map (candidates_of ids) rows) ++ known →
+    AreInOrder (candidate_name ids known) all sorted → AreClassNames ids (map (candidate_name ids known) sorted)
+names_are_classes ids known rows all sorted known_stated described whole_list are = record {
   rise = are.rise;
-  are = λ name. (λ here. is_class name (mapped_from (candidate_name ids every) sorted name here), λ class. there name (class_is_given ids name class));
+  are = λ name. (λ here. is_class name (mapped_from (candidate_name ids known) sorted name here), λ class. there name (class_is_given ids name class));
 }
   where
-    of_every : (name : List ℕ) → (is_built_in name ≡ true) ⊎ (name ≡ texts_name) → IsClassName ids name
-    of_every name (inl is) = built_in is
-    of_every name (inr is) = subst (IsClassName ids) (sym is) texts
+    of_known : (name : List ℕ) → (is_built_in name ≡ true) ⊎ (name ≡ texts_name) → IsClassName ids name
+    of_known name (inl is) = built_in is
+    of_known name (inr is) = subst (IsClassName ids) (sym is) texts
 
-    of_either : (name : List ℕ) → Contains (map (candidate_name ids every) (flat_map (candidates_of ids) rows)) name ⊎ Contains every name → IsClassName ids name
-    of_either name (inl here) = let (row, given, gives) = (of_rows ids every rows name).0 here in given_is_class ids row name ((described row).0 given) gives
-    of_either name (inr here) = of_every name ((every_is name).0 (subst (λ names. Contains names name) every_known here))
+    of_either : (name : List ℕ) → Contains (map (candidate_name ids known) (flat_map (candidates_of ids) rows)) name ⊎ Contains known name → IsClassName ids name
+    of_either name (inl here) = let (row, given, gives) = (of_rows ids known rows name).0 here in given_is_class ids row name ((described row).0 given) gives
+    of_either name (inr here) = of_known name ((known_is name).0 (subst (λ names. Contains names name) known_stated here))
 
-    is_class : (name : List ℕ) → (candidate : Candidate) × Contains sorted candidate × (candidate_name ids every candidate ≡ name) → IsClassName ids name
+    is_class : (name : List ℕ) → (candidate : Candidate) × Contains sorted candidate × (candidate_name ids known candidate ≡ name) → IsClassName ids name
     is_class name (candidate, here, is) =
-        let given : Contains (map (candidate_name ids every) all) name = subst (Contains (map (candidate_name ids every) all)) is (contains_mapped (candidate_name ids every) all candidate (are.among candidate here)) in
-        of_either name (Contains-append_cases (map (candidate_name ids every) (flat_map (candidates_of ids) rows)) every name (subst (λ names. Contains names name) whole_list given))
+        let given : Contains (map (candidate_name ids known) all) name = subst (Contains (map (candidate_name ids known) all)) is (contains_mapped (candidate_name ids known) all candidate (are.among candidate here)) in
+        of_either name (Contains-append_cases (map (candidate_name ids known) (flat_map (candidates_of ids) rows)) known name (subst (λ names. Contains names name) whole_list given))
 
-    of_all : (name : List ℕ) → Contains (map (candidate_name ids every) (flat_map (candidates_of ids) rows) ++ every) name → Contains (map (candidate_name ids every) sorted) name
+    of_all : (name : List ℕ) → Contains (map (candidate_name ids known) (flat_map (candidates_of ids) rows) ++ known) name → Contains (map (candidate_name ids known) sorted) name
     of_all name given =
-        let (candidate, here, is) = mapped_from (candidate_name ids every) all name (subst (λ names. Contains names name) (sym whole_list) given) in
-        subst (Contains (map (candidate_name ids every) sorted)) is (are.named candidate here)
+        let (candidate, here, is) = mapped_from (candidate_name ids known) all name (subst (λ names. Contains names name) (sym whole_list) given) in
+        subst (Contains (map (candidate_name ids known) sorted)) is (are.named candidate here)
 
-    there : (name : List ℕ) → ((row : ℕ) × Contains ids.types row × Gives ids row name) ⊎ Contains every_name name → Contains (map (candidate_name ids every) sorted) name
-    there name (inl (row, given, gives)) = of_all name (Contains-append_left (map (candidate_name ids every) (flat_map (candidates_of ids) rows)) every name ((of_rows ids every rows name).1 (row, (described row).1 given, gives)))
-    there name (inr here) = of_all name (Contains-append_right (map (candidate_name ids every) (flat_map (candidates_of ids) rows)) every name (subst (λ names. Contains names name) (sym every_known) here))
+    there : (name : List ℕ) → ((row : ℕ) × Contains ids.types row × Gives ids row name) ⊎ Contains known_names name → Contains (map (candidate_name ids known) sorted) name
+    there name (inl (row, given, gives)) = of_all name (Contains-append_left (map (candidate_name ids known) (flat_map (candidates_of ids) rows)) known name ((of_rows ids known rows name).1 (row, (described row).1 given, gives)))
+    there name (inr here) = of_all name (Contains-append_right (map (candidate_name ids known) (flat_map (candidates_of ids) rows)) known name (subst (λ names. Contains names name) (sym known_stated) here))

@@ -6,17 +6,17 @@ use Rattle.cc_meaning_file.specs.Descriptors.{names_class, names_reference}
 use Rattle.cc_meaning_program.specs.Named.{text_of}
 use Rattle.cc_meaning_program.specs.ClassNames.{base_name, texts_name}
 use Rattle.cc_names.specs.declared.classes.Candidate.{Candidate}
-use Rattle.cc_names.specs.declared.classes.Candidate.TheVariants.{Whole, Base, Every}
+use Rattle.cc_names.specs.declared.classes.Candidate.TheVariants.{Whole, Base, Known}
 
 -- the names that every program has: those of the built-in classes, and that of the array of texts
-unfoldable pub every_name : List (List ℕ)
-every_name = map (λ (class : BuiltInClass). class.name) built_in_classes ++ texts_name ∷ []
+unfoldable pub known_names : List (List ℕ)
+known_names = map (λ (class : BuiltInClass). class.name) built_in_classes ++ texts_name ∷ []
 
 -- the name of a candidate, where every program has these names
 unfoldable pub candidate_name : Ids → List (List ℕ) → Candidate → List ℕ
-candidate_name ids every (Whole row) = text_of ids row
-candidate_name ids every (Base row) = base_name (text_of ids row)
-candidate_name ids every (Every number) = unwrap_or (slice_get every number) []
+candidate_name ids known (Whole row) = text_of ids row
+candidate_name ids known (Base row) = base_name (text_of ids row)
+candidate_name ids known (Known number) = unwrap_or (slice_get known number) []
 
 -- the candidates that a row of texts makes: its text, where that is a class or an array, and what stands behind its `[`, where that is a class
 unfoldable pub whole_of : Ids → ℕ → List Candidate

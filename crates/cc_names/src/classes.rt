@@ -3,7 +3,7 @@
 ghost use Rattle.std.specs.Prelude.{◌≡◌, ◌∷◌, [], ◌↔◌, ◌++◌, ◌⊎◌, true, ℕ, List, Contains, map, length, ◌+◌, ◌*◌, ◌≤◌, IfOk, OnOk};
 ghost use Rattle.std.specs.List.{flat_map};
 ghost use Rattle.cc_meaning_program.specs.ClassNames.{AreClassNames};
-ghost use Rattle.cc_names.specs.Candidates.{candidate_name, every_name, whole_of, base_of, candidates_of};
+ghost use Rattle.cc_names.specs.Candidates.{candidate_name, known_names, whole_of, base_of, candidates_of};
 
 use crate::order::{Naming, in_order};
 use crate::rows::{base_name, names_class, names_reference, text};
@@ -15,7 +15,7 @@ use std::alloc::{AllocError, Global};
 use std::cmp::Ordering;
 
 /// The built-in classes, and the array of texts, of which the arguments of `main` are one.
-const EVERY_NAME: [&[u8]; 27] = [
+const KNOWN_NAMES: [&[u8]; 27] = [
     b"Ljava/lang/Object;",
     b"Ljava/lang/String;",
     b"Ljava/lang/StringBuilder;",
@@ -50,26 +50,26 @@ const EVERY_NAME: [&[u8]; 27] = [
 pub enum Candidate {
     Whole(u32),
     Base(u32),
-    Every(u32),
+    Known(u32),
 }
 
 /// Where candidates have their names.
 #[derive(Clone, Copy)]
 struct Candidates<'a> {
     ids: &'a Ids,
-    every: &'a Texts,
+    known: &'a Texts,
 }
 
 impl Candidates<'_> {
     /// The name of a candidate.
     #[tactic(auto, unfolding(crate::specs::Candidates::candidate_name))]
     fn name(&self, candidate: Candidate) -> &[u16]
-        ensures { result.now ≡ candidate_name self.now.ids.now self.now.every.now candidate }
+        ensures { result.now ≡ candidate_name self.now.ids.now self.now.known.now candidate }
     {
         match candidate {
             Candidate::Whole(row) => text(self.ids, row),
             Candidate::Base(row) => base_name(text(self.ids, row)),
-            Candidate::Every(number) => match self.every.get(number as usize) {
+            Candidate::Known(number) => match self.known.get(number as usize) {
                 Some(name) => name.as_slice(),
                 None => &[],
             },
@@ -80,7 +80,7 @@ impl Candidates<'_> {
 impl Naming for Candidates<'_> {
     type Item = Candidate;
 
-    ghost name = { λ names candidate. candidate_name names.ids.now names.every.now candidate };
+    ghost name = { λ names candidate. candidate_name names.ids.now names.known.now candidate };
 
     fn compare(&self, one: Candidate, other: Candidate) -> Ordering {
         self.name(one).cmp(&self.name(other))
@@ -123,10 +123,10 @@ fn ascii_names(alloc: Global, names: &[&[u8]]) -> Result<Texts, AllocError>
 }
 
 /// The names of the classes that every program has.
-fn every_name(alloc: Global) -> Result<Texts, AllocError>
-    ensures { IfOk result (λ names. names ≡ every_name) }
+fn known_names(alloc: Global) -> Result<Texts, AllocError>
+    ensures { IfOk result (λ names. names ≡ known_names) }
 {
-    let names = ascii_names(alloc, &EVERY_NAME)?;
+    let names = ascii_names(alloc, &KNOWN_NAMES)?;
     Ok(names)
 }
 
@@ -181,12 +181,12 @@ fn listed_candidates(alloc: Global, ids: &Ids, rows: &[u32]) -> Result<List<Cand
 
 /// Adds a candidate for each of the first names that every program has.
 #[tactic(auto, unfolding(crate::specs::Candidates::candidate_name))]
-fn add_every(all: &mut List<Candidate>, count: u32) -> Result<(), AllocError>
-    ensures { OnOk result ((ids : Ids) (every : List (List ℕ)) → count ≡ length every →
-        map (candidate_name ids every) all.new ≡ map (candidate_name ids every) all.old ++ every) }
+fn add_known(all: &mut List<Candidate>, count: u32) -> Result<(), AllocError>
+    ensures { OnOk result ((ids : Ids) (known : List (List ℕ)) → count ≡ length known →
+        map (candidate_name ids known) all.new ≡ map (candidate_name ids known) all.old ++ known) }
 {
     for number in 0..count {
-        all.push(Candidate::Every(number))?;
+        all.push(Candidate::Known(number))?;
     }
     Ok(())
 }
@@ -203,11 +203,11 @@ pub fn class_names(alloc: Global, ids: &Ids) -> Result<Texts, Memory>
     ensures names { IfOk result (AreClassNames ids.now) }
     ensures few { IfOk result (λ names. length names ≤ 2 * length ids.now.types + 27) }
 {
-    let every = every_name(alloc)?;
+    let known = known_names(alloc)?;
     let rows = described(alloc, ids)?;
     let mut all = listed_candidates(alloc, ids, rows.as_slice())?;
-    add_every(&mut all, every.len() as u32)?;
-    let naming = Candidates { ids, every: &every };
+    add_known(&mut all, known.len() as u32)?;
+    let naming = Candidates { ids, known: &known };
     let sorted = in_order(alloc, &naming, all)?;
     let mut names = List::new(alloc);
     for candidate in sorted.as_slice() {

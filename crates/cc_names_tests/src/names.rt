@@ -60,7 +60,8 @@ fn orders_texts_by_units(rt: HostRuntime) -> Result<(), Fail> {
     let got = texts(alloc, &ids)?;
     expect_texts(&rt, &got, &want);
     let numbers = numbers_of_texts(alloc, &ids, &got)?;
-    assert_eq!(rt; numbers.as_slice(), &[0, 2, 3, 4, 5, 6, 10, 9, 11, 1, 7, 8, 2, 10]);
+    let want: [u32; 14] = [0, 2, 3, 4, 5, 6, 10, 9, 11, 1, 7, 8, 2, 10];
+    assert_eq!(rt; numbers.as_slice(), want.as_slice());
     Ok(())
 }
 

@@ -49,9 +49,9 @@ const METHODS: [(u32, u32, u32); 9] = [
 /// Classes, types and names of the file's fields.
 const FIELDS: [(u32, u32, u32); 5] = [(1, 3, 7), (0, 5, 7), (0, 3, 7), (8, 3, 7), (0, 3, 8)];
 
-fn prototype(alloc: Global, result: u32, params: &[u32]) -> Result<ProtoRow, AllocError> {
+fn prototype(alloc: Global, gives: u32, params: &[u32]) -> Result<ProtoRow, AllocError> {
     Ok(ProtoRow {
-        result,
+        result: gives,
         params: Rows::from_slice(alloc, params)?,
     })
 }

@@ -1,7 +1,0 @@
-use Rattle.std.proofs.Common.{◌≡◌, ◌++◌, ◌≤◌, ℕ, List, length, map, take}
-use Rattle.cc_meaning.specs.declared.file.Ids.{Ids}
-use Rattle.cc_names.specs.Candidates.{candidate_name}
-use Rattle.cc_names.proofs.classes.add_every.Given as goal
-
-abbrev pub invariant-loop-number : goal.invariant-loop-number
-invariant-loop-number l = (ids : Ids) (every : List (List ℕ)) → l.count ≤ length every → map (candidate_name ids every) l.all ≡ map (candidate_name ids every) l.initial.all ++ take l.number every
