@@ -1,6 +1,6 @@
 -- Code: what its instructions name, and where it ends.
-use Rattle.std.proofs.Common.{◌≡◌, ◌≢◌, ℕ, ◌+◌, ◌<◌, ◌≤◌, List, [], ◌∷◌, ◌++◌, length, Option, Some, None, Result, Ok, Err, refl, sym, ap, ◌∙◌, subst, arith}
-use Rattle.std.specs.Prelude.{slice_get, OnOk}
+use Rattle.std.proofs.Common.{◌≡◌, ◌≢◌, ℕ, List, Option, Some, None, Result, Ok, Err, refl, sym, ap, subst}
+use Rattle.std.specs.Prelude.{OnOk}
 use Rattle.cc_meaning.specs.declared.fault.ProgramFault.{ProgramFault}
 use Rattle.cc_meaning.specs.declared.fault.ProgramFault.TheVariants as faults
 use Rattle.cc_meaning.specs.declared.file.Ids.{Ids}
@@ -11,8 +11,8 @@ use Rattle.cc_meaning.specs.declared.file.RawClass.{RawClass}
 use Rattle.cc_meaning.specs.declared.file.RawCode.{RawCode}
 use Rattle.cc_meaning.specs.declared.file.RawMethod.{RawMethod}
 use Rattle.cc_meaning_program.specs.Named.{method_text}
-use Rattle.cc_meaning_program.specs.Instructions.{AreInstructions, BreaksOff, StandToEnd}
-use Rattle.cc_meaning_program.specs.BodyFaults.{FirstHas, NoneHas, FieldFault, MethodFault, InsnFaulty, TryFaulty, CodeFaulty, MethodFaulty, ClassFaulty, SoundCode}
+use Rattle.cc_meaning_program.specs.Instructions.{AreInstructions, StandToEnd}
+use Rattle.cc_meaning_program.specs.BodyFaults.{FirstHas, NoneHas, FieldFault, MethodFault, InsnFaulty, CodeFaulty, MethodFaulty, ClassFaulty}
 use Rattle.cc_bodies.specs.declared.reading.Break.{Break}
 use Rattle.cc_bodies.specs.Reading.{StandBefore}
 use Rattle.cc_bodies.specs.Judged.{Judges, Reads, ReadsEach, ReferenceFaulty}

@@ -1,6 +1,6 @@
 -- What is of floating point, by tests and flags.
-use Rattle.std.proofs.Common.{◌≡◌, ◌≢◌, ◌↔◌, ◌⊎◌, ℕ, zero, suc, ◌+◌, ◌<◌, ◌≤◌, inl, inr, Bool, true, false, List, [], ◌∷◌, ◌++◌, length, drop, get_or, Option, Some, None, refl, sym, ap, ◌∙◌, subst, add-one, arith}
-use Rattle.std.specs.Prelude.{slice_get, unwrap_or, ◌==◌, IsTrue, Contains, codes}
+use Rattle.std.proofs.Common.{◌≡◌, ◌≢◌, ◌↔◌, ℕ, zero, suc, ◌+◌, ◌<◌, ◌≤◌, inl, inr, Bool, true, false, List, [], ◌∷◌, ◌++◌, length, drop, get_or, Option, Some, None, refl, sym, ap, ◌∙◌, subst, add-one, arith}
+use Rattle.std.specs.Prelude.{slice_get, unwrap_or, ◌==◌, IsTrue}
 use Rattle.std.specs.List.{list_any}
 use Rattle.std.proofs.lemmas.Bool.{cases_lt}
 use Rattle.std.proofs.lemmas.Bool.Decides.{nat_tests}
@@ -14,7 +14,7 @@ use Rattle.cc_meaning_file.specs.Descriptors.{dims_of}
 use Rattle.cc_meaning_program.specs.Named.{type_name, text_of}
 use Rattle.cc_meaning_program.specs.ClassNames.{base_name}
 use Rattle.cc_meaning_program.specs.References.{IsFloating, FieldFloats, MethodFloats}
-use Rattle.cc_bodies.specs.Floats.{PrototypeFloats, ProtoFloats, FlagsSay, AreFloatRows}
+use Rattle.cc_bodies.specs.Floats.{PrototypeFloats, ProtoFloats, FlagsSay}
 
 -- ---- descriptors
 
@@ -222,11 +222,11 @@ no_method ids row none (MethodFloats.by_parameter there at in_list floats) = abs
 
 -- ---- one more row
 
-pub type_flag : (ids : Ids) (items : List ℕ) (row : ℕ) (name : List ℕ) (flag : Bool) → items ≡ ids.types → row < length items → name ≡ text_of ids (get_or items row 0) →
-    (IsTrue flag ↔ IsFloating name) → IsTrue flag ↔ IsFloating (type_name ids row)
-type_flag ids items row name flag same h is says =
-    let there : slice_get ids.types row ≡ Some (get_or items row 0) = ap (λ (xs : List ℕ). slice_get xs row) (sym same) ∙ slice_get-get_or items row 0 h in
-    subst (λ (units : List ℕ). IsTrue flag ↔ IsFloating units) (is ∙ sym (type_here ids row (get_or items row 0) there)) says
+pub type_flag : (ids : Ids) (items : List ℕ) (number : ℕ) (name : List ℕ) (flag : Bool) → items ≡ ids.types → number < length items → name ≡ text_of ids (get_or items number 0) →
+    (IsTrue flag ↔ IsFloating name) → IsTrue flag ↔ IsFloating (type_name ids number)
+type_flag ids items number name flag same h is says =
+    let there : slice_get ids.types number ≡ Some (get_or items number 0) = ap (λ (xs : List ℕ). slice_get xs number) (sym same) ∙ slice_get-get_or items number 0 h in
+    subst (λ (units : List ℕ). IsTrue flag ↔ IsFloating units) (is ∙ sym (type_here ids number (get_or items number 0) there)) says
 
 pub proto_flag : (ids : Ids) (items : List ProtoRow) (row : ℕ) (stated : ProtoRow) (flag : Bool) → items ≡ ids.protos → slice_get items row ≡ Some stated →
     (IsTrue flag ↔ PrototypeFloats ids stated) → IsTrue flag ↔ ProtoFloats ids row

@@ -1,5 +1,5 @@
 -- Items that are judged one after another.
-use Rattle.std.proofs.Common.{◌≡◌, ◌≢◌, ℕ, suc, ◌+◌, ◌<◌, ◌≤◌, inl, inr, List, [], ◌∷◌, ◌++◌, length, take, get_or, Some, refl, sym, ap, ◌∙◌, subst, add-one, arith}
+use Rattle.std.proofs.Common.{◌≡◌, ℕ, ◌+◌, ◌<◌, ◌≤◌, inl, inr, List, [], ◌∷◌, ◌++◌, length, take, get_or, Some, refl, sym, ap, subst, add-one, arith}
 use Rattle.std.specs.Prelude.{slice_get}
 use Rattle.std.specs.List.{AllZip}
 use Rattle.std.proofs.Math.Seq.{take-suc}
@@ -88,7 +88,7 @@ each_more {A} is_so items place item there_is one so_far =
             let moved : slice_get items earlier ≡ slice_get items place = ap (slice_get items) here in
             let same : item ≡ other = cc in
             subst is_so same one
-      ]
+      ];
     }
 
 pub each_all : {A : Type 0} (is_so : A → Type 0) (items : List A) (place : ℕ) → length items ≤ place → EachBefore is_so items place → (number : ℕ) (item : A) → slice_get items number ≡ Some item → is_so item

@@ -1,5 +1,5 @@
 -- What a judge of something that may have faults answers.
-use Rattle.std.specs.Prelude.{◌≡◌, ◌≢◌, ℕ, List, Option, Some, Result, Ok, Err}
+use Rattle.std.specs.Prelude.{◌≡◌, ◌≢◌, ℕ, List, Result, Ok, Err}
 use Rattle.std.specs.List.{AllZip}
 use Rattle.cc_meaning.specs.declared.fault.ProgramFault.{ProgramFault}
 use Rattle.cc_meaning.specs.declared.fault.ProgramFault.TheVariants as faults

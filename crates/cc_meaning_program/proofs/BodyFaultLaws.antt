@@ -1,23 +1,16 @@
 -- Of the faults of bodies one is the first.
-use Rattle.std.proofs.Common.{◌≡◌, ◌≢◌, ℕ, zero, suc, ◌<◌, ◌⊎◌, inl, inr, List, [], ◌∷◌, ◌++◌, Option, Some, None, refl, sym, ap, ◌∙◌, subst, arith}
+use Rattle.std.proofs.Common.{◌≡◌, ℕ, zero, suc, ◌<◌, inl, inr, List, [], ◌∷◌, ◌++◌, Some, refl, sym, ap, ◌∙◌, subst, arith}
 use Rattle.std.specs.Prelude.{slice_get}
 use Rattle.std.proofs.lemmas.Bool.{cases_lt}
-use Rattle.cc_meaning.specs.declared.fault.InsnFault.{InsnFault}
 use Rattle.cc_meaning.specs.declared.fault.ProgramFault.{ProgramFault}
 use Rattle.cc_meaning.specs.declared.fault.ProgramFault.TheVariants as faults
 use Rattle.cc_meaning.specs.declared.file.Ids.{Ids}
-use Rattle.cc_meaning.specs.declared.file.RawCatch.{RawCatch}
-use Rattle.cc_meaning.specs.declared.file.RawClass.{RawClass}
 use Rattle.cc_meaning.specs.declared.file.RawCode.{RawCode}
-use Rattle.cc_meaning.specs.declared.file.RawField.{RawField}
-use Rattle.cc_meaning.specs.declared.file.RawMethod.{RawMethod}
-use Rattle.cc_meaning.specs.declared.file.RawTry.{RawTry}
 use Rattle.cc_meaning.specs.declared.program.Placed.{Placed}
 use Rattle.cc_meaning_program.specs.declared.reference.Reference.{Reference}
-use Rattle.cc_meaning_program.specs.Named.{type_name, field_text, method_text}
-use Rattle.cc_meaning_program.specs.References.{reference_of, reference_name, IsMissing, Floats}
-use Rattle.cc_meaning_program.specs.Instructions.{AreInstructions, StandUntil, BreaksOff}
-use Rattle.cc_meaning_program.specs.BodyFaults.{FirstHas, NoneHas, FieldFault, MethodFault, InsnFaulty, CatchFaulty, TryFaulty, CodeFaulty, MethodFaulty, ClassFaulty, IsBodyFault, HaveSoundBodies, SoundCode, OneBodyFault, SoundBodiesHaveNone, NoBodyLacksMemory}
+use Rattle.cc_meaning_program.specs.Named.{type_name, method_text}
+use Rattle.cc_meaning_program.specs.References.{reference_name, IsMissing}
+use Rattle.cc_meaning_program.specs.BodyFaults.{FirstHas, NoneHas, FieldFault, MethodFault, InsnFaulty, CatchFaulty, TryFaulty, CodeFaulty, MethodFaulty, ClassFaulty, SoundCode, OneBodyFault, SoundBodiesHaveNone}
 use Rattle.cc_meaning_program.proofs.BodyRuns.{Run, Stops, until_run, from_run, one_goes, begins_whole, stops_at_end, stops_at_break, one_break}
 
 -- ---- the first of some items

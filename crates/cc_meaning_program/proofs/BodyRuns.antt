@@ -1,9 +1,9 @@
 -- Instructions that stand one behind the other, from one address to another.
-use Rattle.std.proofs.Common.{◌≡◌, ◌≢◌, ℕ, zero, suc, ◌+◌, ◌/◌, ◌%◌, ◌<◌, ◌≤◌, ◌⊎◌, inl, inr, true, false, List, [], ◌∷◌, ◌++◌, length, take, drop, get_or, Option, Some, None, Result, Ok, Err, refl, sym, ap, ◌∙◌, subst, append_assoc, arith}
+use Rattle.std.proofs.Common.{◌≡◌, ◌≢◌, ℕ, zero, suc, ◌+◌, ◌/◌, ◌%◌, ◌<◌, ◌≤◌, ◌⊎◌, inl, inr, true, false, List, [], ◌∷◌, ◌++◌, length, take, drop, get_or, Some, None, Ok, Err, refl, sym, ap, ◌∙◌, subst, append_assoc, arith}
 use Rattle.std.specs.Prelude.{slice_get, slice_range, nat_lt}
 use Rattle.std.proofs.lemmas.Bool.{cases_lt, cases_eq, cases_Bool}
 use Rattle.std.proofs.lemmas.Bool.Decides.{nat_tests}
-use Rattle.std.proofs.lemmas.List.{length-drop, drop_all, append-nil}
+use Rattle.std.proofs.lemmas.List.{length-drop, append-nil}
 use Rattle.cc_meaning.specs.declared.fault.InsnFault.{InsnFault}
 use Rattle.cc_meaning.specs.declared.fault.InsnFault.TheVariants as fault
 use Rattle.cc_meaning.specs.declared.instruction.Insn.{Insn}
@@ -14,7 +14,7 @@ use Rattle.cc_meaning_insn.specs.Opcodes.{opcode_at}
 use Rattle.cc_meaning.specs.declared.instruction.Insn.TheVariants.{ArrayPayload}
 use Rattle.cc_meaning_insn.specs.Payloads.{bytes_of, byte_count, packed_payload, sparse_payload, array_payload, packed_size, sparse_size, array_size, element_width, is_width}
 use Rattle.cc_meaning_insn.specs.Decoded.{if_there, of_opcode, front_of, decoded}
-use Rattle.cc_meaning_program.specs.Instructions.{StandFrom, AreInstructions, StandUntil, BreaksOff, InsnsTakeUnits, AreLaidOut, InstructionsLaidOut, StandToEnd, OneReading, OneBreak}
+use Rattle.cc_meaning_program.specs.Instructions.{StandFrom, StandUntil, BreaksOff, InstructionsLaidOut, StandToEnd, OneReading, OneBreak}
 
 -- ---- an instruction takes a unit at least
 
@@ -146,7 +146,6 @@ from_run (StandFrom.next h d rest) = Run.next h d (from_run rest)
 pub run_from : {units : List ℕ} {at end : ℕ} {placed : List Placed} → Run units at placed end → end ≡ length units → StandFrom units at placed
 run_from {units = units} (Run.none {at = at}) e = subst (λ (n : ℕ). StandFrom units n []) (sym e) StandFrom.none
 run_from (Run.next h d rest) e = StandFrom.next h d (run_from rest e)
-
 
 -- from one address there is one instruction at most
 same_insn : (units : List ℕ) (at size size' : ℕ) (insn insn' : Insn) → decoded units at ≡ Ok (insn, size) → decoded units at ≡ Ok (insn', size') → insn ≡ insn'

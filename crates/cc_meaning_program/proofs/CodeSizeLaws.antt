@@ -1,10 +1,9 @@
 -- Code that a file spells is small, since a number of 32 bits counts its units.
-use Rattle.std.proofs.Common.{◌≡◌, ℕ, zero, suc, ◌+◌, ◌<◌, ◌^◌, List, [], ◌∷◌, length, get_or, Option, Some, None, sym, ◌∙◌, subst, arith}
+use Rattle.std.proofs.Common.{◌≡◌, ℕ, zero, suc, ◌+◌, ◌<◌, ◌^◌, List, [], ◌∷◌, length, get_or, Option, Some, None, subst, arith}
 use Rattle.std.specs.Prelude.{slice_get}
 use Rattle.cc_meaning.specs.declared.file.Ids.{Ids}
 use Rattle.cc_meaning.specs.declared.file.RawCode.{RawCode}
 use Rattle.cc_meaning_file.specs.Numbers.{u16_at, u32_at}
-use Rattle.cc_meaning_classes.specs.CodeItems.{unit_count}
 use Rattle.cc_meaning_classes.specs.Tries.{HasCode}
 use Rattle.cc_meaning_classes.specs.Classes.{EachPair, SpellsClass, SpellsSoundMethod}
 use Rattle.cc_meaning_program.specs.CodeSizes.{SpelledCodeIsSmall}

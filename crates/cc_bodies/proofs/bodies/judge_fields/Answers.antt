@@ -2,7 +2,7 @@ use Rattle.std.proofs.Common.{false, ap}
 use Rattle.cc_meaning.specs.declared.fault.ProgramFault.TheVariants as faults
 use Rattle.std.proofs.lemmas.Option.{slice_get-get_or}
 use Rattle.cc_meaning_program.specs.BodyFaults.{FieldFault}
-use Rattle.cc_bodies.proofs.Loops.{none_more, first_here, none_has, item_there}
+use Rattle.cc_bodies.proofs.Loops.{none_more, first_here, none_has}
 use Rattle.cc_bodies.proofs.bodies.judge_fields.Goals as goal
 
 pub returns-then-field_floats : goal.returns-then-field_floats

@@ -2,7 +2,7 @@ use Rattle.std.proofs.lemmas.Option.{slice_get-get_or}
 use Rattle.std.proofs.lemmas.Result.{err_from_is_err_and}
 use Rattle.cc_meaning_program.specs.BodyFaults.{CatchFaulty}
 use Rattle.std.proofs.Common.{None}
-use Rattle.cc_bodies.proofs.Loops.{none_more, first_here, none_has, item_there}
+use Rattle.cc_bodies.proofs.Loops.{none_more, first_here, none_has}
 use Rattle.cc_bodies.proofs.bodies.judge_try.Goals as goal
 
 pub returns-in_err-judge_catch : goal.returns-in_err-judge_catch

@@ -1,6 +1,6 @@
 use Rattle.std.proofs.Common.{◌≡◌, ℕ, List, length, sym, subst, arith}
 use Rattle.cc_meaning.specs.declared.program.Placed.{Placed}
-use Rattle.cc_meaning_program.specs.Instructions.{StandUntil, BreaksOff}
+use Rattle.cc_meaning_program.specs.Instructions.{StandUntil}
 use Rattle.cc_bodies.proofs.reading.instructions.Goals as goal
 
 pub loop-at-init : goal.loop-at-init
