@@ -38,11 +38,7 @@ pub fn add_ascii(name: &mut Units, text: &[u8]) -> Result<(), AllocError>
 }
 
 /// Adds the name of the class of a number, nothing where there is none.
-pub fn add_class_name(
-    name: &mut Units,
-    program: &Program,
-    class: ClassIx,
-) -> Result<(), AllocError>
+pub fn add_class_name(name: &mut Units, program: &Program, class: ClassIx) -> Result<(), AllocError>
     ensures { OnOk result (name.new ≡ name.old ++ class_name program.now class) }
 {
     match program.classes.get(class as usize) {

@@ -119,10 +119,10 @@ stands_there code at k e =
     elim (any_placed code.insns) [
       | inl none ↦ let f : position test [] ≡ Some k = rw none at e in absurd (cc)
       | inr d ↦
-        let first = position-Some test code.insns k d e in
-        let placed = slice_index_or code.insns k d in
-        let got = slice_get-get_or code.insns k d first.0 in
-        (placed, got, find_at_place test code.insns k e ∙ got, same_address placed.at at first.1)
+          let first = position-Some test code.insns k d e in
+          let placed = slice_index_or code.insns k d in
+          let got = slice_get-get_or code.insns k d first.0 in
+          (placed, got, find_at_place test code.insns k e ∙ got, same_address placed.at at first.1)
     ]
 
 absent_there : (code : Code) (at : ℕ) → place_of code at ≡ None → placed_at code at ≡ None

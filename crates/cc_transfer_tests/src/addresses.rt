@@ -21,14 +21,23 @@ fn targets(rt: HostRuntime) -> Result<(), Fail> {
     assert!(rt; !is_target(code, Some(2)), "within an instruction");
     assert!(rt; !is_target(code, Some(3)), "a payload");
     assert!(rt; !is_target(code, None), "before the first");
-    assert!(rt; has_targets(code, 1, &Insn::Goto { target: -1 }), "back to 0");
-    assert!(rt; !has_targets(code, 1, &Insn::Goto { target: 1 }), "into an instruction");
+    assert!(rt;
+        has_targets(code, 1, &Insn::Goto { target: -1 }),
+        "back to 0"
+    );
+    assert!(rt;
+        !has_targets(code, 1, &Insn::Goto { target: 1 }),
+        "into an instruction"
+    );
     let switch = Insn::Switch {
         packed: true,
         value: 0,
         target: 7,
     };
-    assert!(rt; !has_targets(code, 0, &switch), "a case goes before the first address");
+    assert!(rt;
+        !has_targets(code, 0, &switch),
+        "a case goes before the first address"
+    );
     assert!(rt; placed_at(code, 7).is_some(), "the switch's payload");
     Ok(())
 }
@@ -48,8 +57,14 @@ fn ways(rt: HostRuntime) -> Result<(), Fail> {
     };
     let mut ways = successors(body.code, &placed);
     assert!(rt; matches!(ways.take_first(), Some(Some(3))), "the next one");
-    assert!(rt; matches!(ways.take_first(), Some(Some(1))), "the first case");
-    assert!(rt; matches!(ways.take_first(), Some(None)), "a case before the first address");
+    assert!(rt;
+        matches!(ways.take_first(), Some(Some(1))),
+        "the first case"
+    );
+    assert!(rt;
+        matches!(ways.take_first(), Some(None)),
+        "a case before the first address"
+    );
     assert!(rt; ways.take_first().is_none(), "no more");
     Ok(())
 }
@@ -65,7 +80,10 @@ fn catches(rt: HostRuntime) -> Result<(), Fail> {
     };
     let taken = handlers(body.code, &thrown);
     assert_eq!(rt; taken.len(), 2);
-    assert!(rt; take_references(taken), "an outside class and every exception");
+    assert!(rt;
+        take_references(taken),
+        "an outside class and every exception"
+    );
     for catch in taken {
         match (catch.kind, handler_pending(&body, catch)) {
             (Some(_), Pending::Exception(ty)) => assert!(rt; is_class(ty, 7), "held as Object"),
@@ -109,14 +127,20 @@ fn states(rt: HostRuntime) -> Result<(), Fail> {
     )?;
     let pending = Pending::Exception(class_type(2));
     if state.registers.len() == other.len() {
-        assert!(rt; !join_state(&body, &mut state, &other, pending), "LA; is wider");
+        assert!(rt;
+            !join_state(&body, &mut state, &other, pending),
+            "LA; is wider"
+        );
     }
     match state.pending {
         Pending::Exception(ty) => assert!(rt; is_class(ty, 0), "both are an LA;"),
         _ => assert!(rt; false, "an exception is pending"),
     }
     if state.registers.len() == other.len() {
-        assert!(rt; join_state(&body, &mut state, &other, pending), "nothing new");
+        assert!(rt;
+            join_state(&body, &mut state, &other, pending),
+            "nothing new"
+        );
     }
     Ok(())
 }
@@ -149,6 +173,9 @@ fn members(rt: HostRuntime) -> Result<(), Fail> {
         },
         args: List::new(alloc),
     };
-    assert!(rt; !knows_member(&body, &as_static), "m is a method of instances");
+    assert!(rt;
+        !knows_member(&body, &as_static),
+        "m is a method of instances"
+    );
     Ok(())
 }

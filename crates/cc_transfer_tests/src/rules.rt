@@ -2,6 +2,7 @@
 //! `cc_meaning_typing` names.
 
 use crate::sample::{Sample, class_type, number};
+use RegType::{Fresh, Int, LongHigh, LongLow, Reference, Unset, Zero};
 use cc_list::List;
 use cc_meaning::instruction::{
     Conversion, How, Insn, IntOp, Kind, MethodRef, Test, TypeRef, UnaryOp,
@@ -12,8 +13,6 @@ use cc_transfer::{accepts, apply};
 use cc_types::same_type;
 use std::alloc::{AllocError, Global};
 use std::test::Fail;
-
-use RegType::{Fresh, Int, LongHigh, LongLow, Reference, Unset, Zero};
 
 fn of(class: u32) -> RegType {
     Reference(class_type(class))
@@ -111,14 +110,38 @@ fn moves(rt: HostRuntime) -> Result<(), Fail> {
         to: 1,
         from: 0,
     };
-    assert!(rt; gives(alloc, &sample, &[Zero, Unset], &plain, &[Zero, Zero])?, "the literal 0");
-    assert!(rt; refuses(alloc, &sample, &[of(0), Unset], &plain)?, "a reference");
     assert!(rt;
-        gives(alloc, &sample, &[LongLow, LongHigh, Int], &wide, &[Unset, LongLow, LongHigh])?,
+        gives(alloc, &sample, &[Zero, Unset], &plain, &[Zero, Zero])?,
+        "the literal 0"
+    );
+    assert!(rt;
+        refuses(alloc, &sample, &[of(0), Unset], &plain)?,
+        "a reference"
+    );
+    assert!(rt;
+        gives(
+            alloc,
+            &sample,
+            &[LongLow, LongHigh, Int],
+            &wide,
+            &[Unset, LongLow, LongHigh]
+        )?,
         "the first half of the source is lost"
     );
-    assert!(rt; refuses(alloc, &sample, &[LongLow, Unset, Int], &wide)?, "half of a long");
-    assert!(rt; gives(alloc, &sample, &[Fresh(1), Int], &object, &[Fresh(1), Fresh(1)])?, "unbuilt");
+    assert!(rt;
+        refuses(alloc, &sample, &[LongLow, Unset, Int], &wide)?,
+        "half of a long"
+    );
+    assert!(rt;
+        gives(
+            alloc,
+            &sample,
+            &[Fresh(1), Int],
+            &object,
+            &[Fresh(1), Fresh(1)]
+        )?,
+        "unbuilt"
+    );
     assert!(rt; refuses(alloc, &sample, &[Int, Unset], &object)?, "an int");
     Ok(())
 }
@@ -133,18 +156,38 @@ fn results(rt: HostRuntime) -> Result<(), Fail> {
     };
     let loose = Pending::Result(class_type(4));
     match behind(alloc, &sample, &[Unset], loose, &result)? {
-        Some(state) => assert!(rt; are_same(&state, &[of(7)]), "an outside type is held as Object"),
+        Some(state) => assert!(rt;
+            are_same(&state, &[of(7)]),
+            "an outside type is held as Object"
+        ),
         None => assert!(rt; false, "a reference is pending"),
     }
     let long = Pending::Result(number(Base::Long));
-    assert!(rt; behind(alloc, &sample, &[Unset], long, &result)?.is_none(), "a long is pending");
-    let exception = Insn::MoveException { to: 0 };
-    assert!(rt; refuses(alloc, &sample, &[Unset], &exception)?, "nothing is pending");
     assert!(rt;
-        refuses(alloc, &sample, &[Int], &Insn::Return { kind: Kind::Plain, from: 0 })?,
+        behind(alloc, &sample, &[Unset], long, &result)?.is_none(),
+        "a long is pending"
+    );
+    let exception = Insn::MoveException { to: 0 };
+    assert!(rt;
+        refuses(alloc, &sample, &[Unset], &exception)?,
+        "nothing is pending"
+    );
+    assert!(rt;
+        refuses(
+            alloc,
+            &sample,
+            &[Int],
+            &Insn::Return {
+                kind: Kind::Plain,
+                from: 0
+            }
+        )?,
         "the method has no result"
     );
-    assert!(rt; gives(alloc, &sample, &[Int], &Insn::ReturnVoid, &[Int])?, "return-void");
+    assert!(rt;
+        gives(alloc, &sample, &[Int], &Insn::ReturnVoid, &[Int])?,
+        "return-void"
+    );
     Ok(())
 }
 
@@ -153,24 +196,42 @@ fn objects(rt: HostRuntime) -> Result<(), Fail> {
     let alloc = rt.alloc();
     let sample = Sample::new(alloc)?;
     let text = Insn::ConstText { to: 0, text: 0 };
-    assert!(rt; gives(alloc, &sample, &[Unset], &text, &[of(8)])?, "a String");
+    assert!(rt;
+        gives(alloc, &sample, &[Unset], &text, &[of(8)])?,
+        "a String"
+    );
     let constant = Insn::ConstInt { to: 0, value: -1 };
-    assert!(rt; gives(alloc, &sample, &[Unset], &constant, &[Int])?, "an int");
+    assert!(rt;
+        gives(alloc, &sample, &[Unset], &constant, &[Int])?,
+        "an int"
+    );
     let new = Insn::NewInstance {
         to: 0,
         named: known(0),
     };
     assert!(rt;
-        gives(alloc, &sample, &[Unset, Fresh(4), Fresh(1)], &new, &[Fresh(4), Unset, Fresh(1)])?,
+        gives(
+            alloc,
+            &sample,
+            &[Unset, Fresh(4), Fresh(1)],
+            &new,
+            &[Fresh(4), Unset, Fresh(1)]
+        )?,
         "the object that was made here before is lost"
     );
     let cast = Insn::CheckCast {
         object: 0,
         named: known(3),
     };
-    assert!(rt; gives(alloc, &sample, &[of(1)], &cast, &[of(7)])?, "an interface is held as Object");
+    assert!(rt;
+        gives(alloc, &sample, &[of(1)], &cast, &[of(7)])?,
+        "an interface is held as Object"
+    );
     let throw = Insn::Throw { object: 0 };
-    assert!(rt; gives(alloc, &sample, &[of(9)], &throw, &[of(9)])?, "a Throwable");
+    assert!(rt;
+        gives(alloc, &sample, &[of(9)], &throw, &[of(9)])?,
+        "a Throwable"
+    );
     assert!(rt; refuses(alloc, &sample, &[of(0)], &throw)?, "no exception");
     Ok(())
 }
@@ -186,28 +247,55 @@ fn arrays(rt: HostRuntime) -> Result<(), Fail> {
         array: 0,
         index: 1,
     };
-    assert!(rt; gives(alloc, &sample, &[ints, Int, Unset], &get, &[ints, Int, Int])?, "an int");
+    assert!(rt;
+        gives(alloc, &sample, &[ints, Int, Unset], &get, &[ints, Int, Int])?,
+        "an int"
+    );
     let booleans = Reference(array(Base::Boolean));
-    assert!(rt; refuses(alloc, &sample, &[booleans, Int, Unset], &get)?, "booleans");
+    assert!(rt;
+        refuses(alloc, &sample, &[booleans, Int, Unset], &get)?,
+        "booleans"
+    );
     let of_null = Insn::ArrayGet {
         kind: Kind::Object,
         to: 2,
         array: 0,
         index: 1,
     };
-    assert!(rt; gives(alloc, &sample, &[Zero, Int, Unset], &of_null, &[Zero, Int, Zero])?, "null");
+    assert!(rt;
+        gives(
+            alloc,
+            &sample,
+            &[Zero, Int, Unset],
+            &of_null,
+            &[Zero, Int, Zero]
+        )?,
+        "null"
+    );
     let put = Insn::ArrayPut {
         kind: Kind::Object,
         from: 2,
         array: 0,
         index: 1,
     };
-    assert!(rt; gives(alloc, &sample, &[Zero, Int, of(4)], &put, &[Zero, Int, of(4)])?, "into null");
+    assert!(rt;
+        gives(
+            alloc,
+            &sample,
+            &[Zero, Int, of(4)],
+            &put,
+            &[Zero, Int, of(4)]
+        )?,
+        "into null"
+    );
     let fill = Insn::FillArray {
         array: 0,
         target: -1,
     };
-    assert!(rt; gives(alloc, &sample, &[ints], &fill, &[ints])?, "of four bytes");
+    assert!(rt;
+        gives(alloc, &sample, &[ints], &fill, &[ints])?,
+        "of four bytes"
+    );
     assert!(rt; refuses(alloc, &sample, &[booleans], &fill)?, "of one byte");
     Ok(())
 }
@@ -222,24 +310,42 @@ fn fields(rt: HostRuntime) -> Result<(), Fail> {
         object: 0,
         field: 2,
     };
-    assert!(rt; gives(alloc, &sample, &[of(1), Unset], &get, &[of(1), of(7)])?, "of a subclass");
-    assert!(rt; refuses(alloc, &sample, &[of(5), Unset], &get)?, "of another class");
+    assert!(rt;
+        gives(alloc, &sample, &[of(1), Unset], &get, &[of(1), of(7)])?,
+        "of a subclass"
+    );
+    assert!(rt;
+        refuses(alloc, &sample, &[of(5), Unset], &get)?,
+        "of another class"
+    );
     let put = Insn::StaticPut {
         kind: Kind::Wide,
         from: 0,
         field: 1,
     };
     assert!(rt;
-        gives(alloc, &sample, &[LongLow, LongHigh], &put, &[LongLow, LongHigh])?,
+        gives(
+            alloc,
+            &sample,
+            &[LongLow, LongHigh],
+            &put,
+            &[LongLow, LongHigh]
+        )?,
         "a long"
     );
-    assert!(rt; refuses(alloc, &sample, &[LongLow, Int], &put)?, "half of a long");
+    assert!(rt;
+        refuses(alloc, &sample, &[LongLow, Int], &put)?,
+        "half of a long"
+    );
     let other = Insn::StaticGet {
         kind: Kind::Plain,
         to: 0,
         field: 1,
     };
-    assert!(rt; refuses(alloc, &sample, &[Unset, Unset], &other)?, "a long by the form of ints");
+    assert!(rt;
+        refuses(alloc, &sample, &[Unset, Unset], &other)?,
+        "a long by the form of ints"
+    );
     Ok(())
 }
 
@@ -264,20 +370,35 @@ fn calls(rt: HostRuntime) -> Result<(), Fail> {
     let given = [of(1), Int, LongLow, LongHigh];
     let call = invoke(alloc, How::Virtual, 0, 0, &[0, 1, 2, 3])?;
     match behind(alloc, &sample, &given, Pending::Nothing, &call)? {
-        Some(state) => assert!(rt; matches!(state.pending, Pending::Result(_)), "a result is pending"),
+        Some(state) => assert!(rt;
+            matches!(state.pending, Pending::Result(_)),
+            "a result is pending"
+        ),
         None => assert!(rt; false, "LB; is an LA;"),
     }
     let other = invoke(alloc, How::Virtual, 2, 0, &[0, 1, 2, 3])?;
     assert!(rt; refuses(alloc, &sample, &given, &other)?, "no LC;");
     let short = invoke(alloc, How::Virtual, 0, 0, &[0, 1])?;
-    assert!(rt; refuses(alloc, &sample, &given, &short)?, "too few registers");
+    assert!(rt;
+        refuses(alloc, &sample, &given, &short)?,
+        "too few registers"
+    );
     let constructor = invoke(alloc, How::Direct, 0, 1, &[0])?;
     assert!(rt;
-        gives(alloc, &sample, &[Fresh(1), Int, Fresh(1)], &constructor, &[of(0), Int, of(0)])?,
+        gives(
+            alloc,
+            &sample,
+            &[Fresh(1), Int, Fresh(1)],
+            &constructor,
+            &[of(0), Int, of(0)]
+        )?,
         "constructed in all registers"
     );
     let of_object = invoke(alloc, How::Direct, 7, 1, &[0])?;
-    assert!(rt; refuses(alloc, &sample, &[Fresh(1)], &of_object)?, "a constructor of another class");
+    assert!(rt;
+        refuses(alloc, &sample, &[Fresh(1)], &of_object)?,
+        "a constructor of another class"
+    );
     Ok(())
 }
 
@@ -292,9 +413,15 @@ fn operations(rt: HostRuntime) -> Result<(), Fail> {
         right: 2,
     };
     let long = [LongLow, LongHigh, LongLow, LongHigh];
-    assert!(rt; refuses(alloc, &sample, &long, &shift)?, "a shift by a long");
+    assert!(rt;
+        refuses(alloc, &sample, &long, &shift)?,
+        "a shift by a long"
+    );
     let by_int = [LongLow, LongHigh, Int, Unset];
-    assert!(rt; gives(alloc, &sample, &by_int, &shift, &by_int)?, "a shift by an int");
+    assert!(rt;
+        gives(alloc, &sample, &by_int, &shift, &by_int)?,
+        "a shift by an int"
+    );
     let narrow = Insn::Convert {
         op: Conversion::LongToInt,
         to: 1,
@@ -309,20 +436,29 @@ fn operations(rt: HostRuntime) -> Result<(), Fail> {
         to: 6,
         from: 0,
     };
-    assert!(rt; refuses(alloc, &sample, &[Int], &negative)?, "a register past the last one");
+    assert!(rt;
+        refuses(alloc, &sample, &[Int], &negative)?,
+        "a register past the last one"
+    );
     let less = Insn::If {
         test: Test::Lt,
         left: 0,
         right: 1,
         target: 2,
     };
-    assert!(rt; refuses(alloc, &sample, &[Zero, of(0)], &less)?, "references by order");
+    assert!(rt;
+        refuses(alloc, &sample, &[Zero, of(0)], &less)?,
+        "references by order"
+    );
     let equal = Insn::If {
         test: Test::Eq,
         left: 0,
         right: 1,
         target: 2,
     };
-    assert!(rt; gives(alloc, &sample, &[Zero, of(0)], &equal, &[Zero, of(0)])?, "equal references");
+    assert!(rt;
+        gives(alloc, &sample, &[Zero, of(0)], &equal, &[Zero, of(0)])?,
+        "equal references"
+    );
     Ok(())
 }

@@ -11,8 +11,8 @@ use cc_lookup::add_ascii;
 use cc_meaning::instruction::{Insn, TypeRef};
 use cc_meaning::lists::{ClassIx, Units};
 use cc_meaning::program::{
-    Base, Catch, Class, ClassKind, Classes, Code, DexType, Field, Fields, Insns, Method, MethodKind,
-    Methods, Placed, Program, Try,
+    Base, Catch, Class, ClassKind, Classes, Code, DexType, Field, Fields, Insns, Method,
+    MethodKind, Methods, Placed, Program, Try,
 };
 use cc_meaning_typing::worked_rules;
 use cc_transfer::{Landmarks, MethodBody, find_landmarks};
