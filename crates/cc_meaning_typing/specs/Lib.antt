@@ -11,3 +11,4 @@ pub mod Growth
 pub mod Laws
 pub mod Worked
 pub mod WorkedTyping
+pub mod WellFormed

@@ -9,8 +9,9 @@ use crate::registers::{join, same_register};
 use cc_list::List;
 use cc_meaning::program::{Program, RegType};
 
+/// What is known of a register, nothing past the last one.
 #[tactic(auto, using(crate::proofs::Joined::register_none))]
-fn register(registers: &List<RegType>, at: usize) -> RegType
+pub fn register(registers: &List<RegType>, at: usize) -> RegType
     ensures { result ≡ slice_index_or registers.now at Unset }
 {
     match registers.get(at) {
