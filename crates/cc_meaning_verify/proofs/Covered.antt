@@ -80,11 +80,15 @@ module _ (body : Body) (order : StatesOrder body.program) (joins : StateJoinIsLe
       let a = f.stands in
       let b = kept.stands in
       let same : f.placed ≡ kept.placed = cc in
-      let under : Under (catch_all body.program s (lead_all body.program (after body.program at s f.placed.insn) states (successors body.code f.placed)) (handlers body.code f.placed)) =
-      catch_all_under (lead_all body.program (after body.program at s f.placed.insn) states (successors body.code f.placed)) (handlers body.code f.placed) s
-      (lead_all_under states (successors body.code f.placed) (after body.program at s f.placed.insn) g (λ k d h. leads_less body.program order joins typing (slice_index_or (successors body.code f.placed) k d) (after body.program at l.0 f.placed.insn) (after body.program at s f.placed.insn) (rules.gives at f.placed.insn l.0 s l.2 f.accepts) (f.leads k d h)))
-      (λ k d h. let c = slice_index_or (handlers body.code f.placed) k d in leads_less body.program order joins typing (Some c.at) (handler_state body.program l.0 c) (handler_state body.program s c) (rules.handled c l.0 s l.2) (f.handled k d h)) in
-      subst (λ (p : Placed). Under (catch_all body.program s (lead_all body.program (after body.program at s p.insn) states (successors body.code p)) (handlers body.code p))) same under
+      let given = after body.program at s f.placed.insn in
+      let tos = successors body.code f.placed in
+      let catches = handlers body.code f.placed in
+      let mid = catch_all body.program s states catches in
+      let caught : Under mid =
+      catch_all_under states catches s g (λ k d h. let c = slice_index_or catches k d in leads_less body.program order joins typing (Some c.at) (handler_state body.program l.0 c) (handler_state body.program s c) (rules.handled c l.0 s l.2) (f.handled k d h)) in
+      let under : Under (lead_all body.program given mid tos) =
+      lead_all_under mid tos given caught (λ k d h. leads_less body.program order joins typing (slice_index_or tos k d) (after body.program at l.0 f.placed.insn) given (rules.gives at f.placed.insn l.0 s l.2 f.accepts) (f.leads k d h)) in
+      subst (λ (p : Placed). Under (lead_all body.program (after body.program at s p.insn) (catch_all body.program s states (handlers body.code p)) (successors body.code p))) same under
 
   pub under_after : {n : ℕ} {states : States} {due : Due} → After body n states due → Under states
   unfolding opening_states

@@ -7,3 +7,4 @@ pub mod Covered
 pub mod Room
 pub mod Order
 pub mod FaultLaws
+pub mod Spreading

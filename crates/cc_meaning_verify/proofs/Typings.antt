@@ -106,10 +106,10 @@ module _ (body : Body) (order : StatesOrder body.program) (joins : StateJoinIsLe
   unfolding tried
   tried_step states at placed s wide e =
       let given = after body.program at s placed.insn in
-      let f = lead_all_step body.program order joins (width_of body) states (successors body.code placed) given wide (after_keeps body.program at s placed.insn ∙ e) in
-      let mid = lead_all body.program given states (successors body.code placed) in
-      step_further body.program order joins (width_of body) states mid (catch_all body.program s mid (handlers body.code placed)) f
-      (catch_all_step body.program order joins (width_of body) mid (handlers body.code placed) s f.wide e)
+      let f = catch_all_step body.program order joins (width_of body) states (handlers body.code placed) s wide e in
+      let mid = catch_all body.program s states (handlers body.code placed) in
+      step_further body.program order joins (width_of body) states mid (lead_all body.program given mid (successors body.code placed)) f
+      (lead_all_step body.program order joins (width_of body) mid (successors body.code placed) given f.wide (after_keeps body.program at s placed.insn ∙ e))
 
   opening_shape : Shape (opening_states body)
   unfolding opening_states width_of
@@ -173,15 +173,15 @@ module _ (body : Body) (order : StatesOrder body.program) (joins : StateJoinIsLe
         let eg = after_keeps body.program at s placed.insn ∙ es in
         let come = successors_come body closed at placed r stands in
         let caught = handlers_come body closed at placed r stands in
-        let mid = lead_all body.program given states tos in
-        let last = catch_all body.program s mid catches in
-        let f = lead_all_step body.program order joins (width_of body) states tos given h.wide eg in
-        let g = catch_all_step body.program order joins (width_of body) mid catches s f.wide es in
-        let there = lead_all_there body.program order joins (width_of body) states tos given h.wide eg (λ k d l. come_inside states h.long (slice_index_or tos k d) (come k d l)) in
+        let mid = catch_all body.program s states catches in
+        let last = lead_all body.program given mid tos in
+        let f = catch_all_step body.program order joins (width_of body) states catches s h.wide es in
+        let g = lead_all_step body.program order joins (width_of body) mid tos given f.wide eg in
+        let there = catch_all_there body.program order joins (width_of body) states catches s h.wide es (λ k d l. rw h.long (inside body closed (slice_index_or catches k d).at (caught k d l))) in
         record {
-          leads = λ k d l. leads_grow body.program order joins (state_at mid) (state_at last) (slice_index_or tos k d) given g.grows (there k d l);
-          handled = catch_all_there body.program order joins (width_of body) mid catches s f.wide es (λ k d l. rw (f.long ∙ h.long) (inside body closed (slice_index_or catches k d).at (caught k d l)));
-          reached = catch_all_within body.program (Reaches body.code) mid catches s (lead_all_within body.program (Reaches body.code) states tos given w (λ k d l. come_at (slice_index_or tos k d) (come k d l))) caught;
+          leads = lead_all_there body.program order joins (width_of body) mid tos given f.wide eg (λ k d l. come_inside mid (f.long ∙ h.long) (slice_index_or tos k d) (come k d l));
+          handled = λ k d l. let c = slice_index_or catches k d in leads_grow body.program order joins (state_at mid) (state_at last) (Some c.at) (handler_state body.program s c) g.grows (there k d l);
+          reached = lead_all_within body.program (Reaches body.code) mid tos given (catch_all_within body.program (Reaches body.code) states catches s w caught) (λ k d l. come_at (slice_index_or tos k d) (come k d l));
         }
 
     fine_grows : (t u : Typing) (at : ℕ) (s : State) → GrowsTo body.program t u → IsFine body t at s → IsFine body u at s

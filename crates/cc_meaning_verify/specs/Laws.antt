@@ -1,5 +1,5 @@
 -- The laws of tries and of faults.
-use Rattle.std.specs.Prelude.{◌≡◌, ℕ, ◌<◌, true, length, Some}
+use Rattle.std.specs.Prelude.{◌≡◌, ℕ, ◌<◌, true, length, Option, Some}
 use Rattle.cc_meaning.specs.declared.fault.VerifyFault.{VerifyFault}
 use Rattle.cc_meaning.specs.declared.program.Placed.{Placed}
 use Rattle.cc_meaning.specs.declared.program.Program.{Program}
@@ -8,7 +8,7 @@ use Rattle.cc_meaning_typing.specs.Hierarchy.{IsHierarchy}
 use Rattle.cc_meaning_typing.specs.Code.{Body, placed_at}
 use Rattle.cc_meaning_typing.specs.Typing.{Typing, Leads, IsTyping, HasTyping}
 use Rattle.cc_meaning_typing.specs.WellTyped.{TargetsStand, Reaches, IsSound, WellTyped}
-use Rattle.cc_meaning_verify.specs.Tries.{units_of, States, state_at, Due, tried, DueAfter, Passes, Tries, After, EndsWith, BreaksAt}
+use Rattle.cc_meaning_verify.specs.Tries.{units_of, States, state_at, lead, Due, Marks, tried, DueAfter, Passes, Tries, After, EndsWith, BreaksAt}
 use Rattle.cc_meaning_verify.specs.Faults.{IsTooWide, StaysWithin, IsFaultOf, IsFirstFault, FitsWidth}
 use Rattle.cc_meaning_verify.specs.Ending.{width_of, tries_room, AreNarrowStates}
 
@@ -25,6 +25,22 @@ pub record Fits (body : Body) (states : States) (due : Due) : Type 0 where
   pub has : (at : ℕ) → due at ≡ true → (s : State) × (state_at states at ≡ Some s)
   pub reached : (at : ℕ) (s : State) → state_at states at ≡ Some s → Reaches body.code at
 
+-- States grow, as many registers in each of them, and the addresses whose states have changed are due beside those that were.
+pub record Spreads (body : Body) (states new : States) (due later : Due) : Type 0 where
+  pub long : length new ≡ length states
+  pub wide : (at : ℕ) (s : State) → state_at new at ≡ Some s → length s.registers ≡ width_of body
+  pub grows : (at : ℕ) (s : State) → state_at states at ≡ Some s → Leads body.program (state_at new) (Some at) s
+  pub marks : (at : ℕ) → Marks (state_at states at) (state_at new at) (due at) (later at)
+
+abbrev pub AreWide : Body → States → Type 0
+AreWide body states = (at : ℕ) (s : State) → state_at states at ≡ Some s → length s.registers ≡ width_of body
+
+-- leading to an address spreads, and so does spreading twice
+pub record LeadingSpreads (body : Body) : Type 0 where
+  pub none : (states : States) (due : Due) → AreWide body states → Spreads body states states due due
+  pub once : (states : States) (due later : Due) (to : Option ℕ) (s : State) → AreWide body states → length s.registers ≡ width_of body → ((at : ℕ) → Marks (state_at states at) (state_at (lead body.program s states to) at) (due at) (later at)) → Spreads body states (lead body.program s states to) due later
+  pub further : (states new last : States) (due later late : Due) → Spreads body states new due later → Spreads body new last later late → Spreads body states last due late
+
 -- The states on the way fit, and where no rule was broken those in the end are a typing.
 pub record TriesFindTypings (body : Body) : Type 0 where
   pub fits : (n : ℕ) (states : States) (due : Due) → After body n states due → Fits body states due
@@ -38,6 +54,9 @@ pub record TypingsCover (body : Body) : Type 0 where
 -- each try in which no rule is broken leaves less room for further ones
 abbrev pub TriesShrink : Body → Type 0
 TriesShrink body = (n at : ℕ) (states : States) (due later : Due) (s : State) → After body n states due → Tries body states due at s → (kept : Passes body at s) → DueAfter states (tried body states at kept.placed s) due at later → AreNarrowStates (tried body states at kept.placed s) → tries_room body (tried body states at kept.placed s) later < tries_room body states due
+
+abbrev pub LeadsSpread : Type 0
+LeadsSpread = (body : Body) → IsHierarchy body.program → LeadingSpreads body
 
 abbrev pub FindTypings : Type 0
 FindTypings = (body : Body) → IsHierarchy body.program → IsClosed body → TriesFindTypings body

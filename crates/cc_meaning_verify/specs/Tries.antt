@@ -45,9 +45,9 @@ unfoldable pub catch_all : Program → State → States → List Catch → State
 catch_all program s states [] = states
 catch_all program s states (catch ∷ rest) = catch_all program s (lead program (handler_state program s catch) states (Some catch.at)) rest
 
--- The states after a try at an address: control goes to the instruction's successors with what it gives, and to its handlers with what they begin with.
+-- The states after a try at an address: control goes to the instruction's handlers with what they begin with, and to its successors with what it gives.
 unfoldable pub tried : Body → States → ℕ → Placed → State → States
-tried body states at placed s = catch_all body.program s (lead_all body.program (after body.program at s placed.insn) states (successors body.code placed)) (handlers body.code placed)
+tried body states at placed s = lead_all body.program (after body.program at s placed.insn) (catch_all body.program s states (handlers body.code placed)) (successors body.code placed)
 
 -- as a method begins, the opening state is known at its first address
 unfoldable pub opening_states : Body → States

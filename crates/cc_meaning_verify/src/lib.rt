@@ -1,9 +1,18 @@
 //! How a verifier finds the least typing of a method, and which fault is a program's first: definitions and laws.
 #![tactic(auto)]
 
-ghost use Rattle.cc_meaning_verify.specs.Laws.{FindTypings, CoverTries, ShrinkTries, OneFault, SoundHasNoFault, OneFirstFault, WellTypedHasNoFault};
+ghost use Rattle.cc_meaning_verify.specs.Laws.{LeadsSpread, FindTypings, CoverTries, ShrinkTries, OneFault, SoundHasNoFault, OneFirstFault, WellTypedHasNoFault};
 
 use cc_meaning_typing::{law_growth, law_rules, law_state_join, law_states};
+
+/// Where control comes to an address states grow, and so they do over several addresses.
+#[tactic(auto, using(crate::proofs::Spreading::leads_spread))]
+pub fn law_leads_spread()
+    ensures { LeadsSpread }
+{
+    law_states();
+    law_state_join();
+}
 
 /// Where no rule is broken the states in the end are a typing, in a method that control doesn't leave.
 #[tactic(auto, using(crate::proofs::Typings::find_typings))]
