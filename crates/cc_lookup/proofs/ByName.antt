@@ -31,7 +31,7 @@ index_rises a b n h Less e = rw (nat_list_cmp_total.trans a b n h e) (omega arit
 index_rises a b n h Equal e = rw (below_equal a b n h e) (omega arith)
 index_rises a b n h Greater e = at_most_two (slice_cmp nat_cmp a n)
 
-below_or_same : (i j : ℕ) → i ≤ j → (i < j) ⊎ (i ≡ j)
+pub below_or_same : (i j : ℕ) → i ≤ j → (i < j) ⊎ (i ≡ j)
 below_or_same i j h = grind arith
 
 pub rises_by_index : (classes : List Class) (name : List ℕ) → IsRisingByName classes → IsNonDecreasingBy (λ (c : Class). ordering_index (slice_cmp nat_cmp c.name name)) classes
@@ -70,3 +70,11 @@ absent_is_position (x ∷ xs) name other =
     place_absent test (x ∷ xs) (position_or_len_is test (x ∷ xs) (length (x ∷ xs)) x (omega arith)
     (λ k h. is_other _ name _ refl (other k x h))
     (λ h. absurd (omega arith)))
+
+-- the first element that passes, where none before it does
+pub first_is_position : {X : Type 0} (p : X → Bool) (xs : List X) (at : ℕ) (d : X) → at < length xs → ((k : ℕ) → k < at → p (slice_index_or xs k d) ≡ false) → p (slice_index_or xs at d) ≡ true → position p xs ≡ Some at
+first_is_position p xs at d below none here = place_found p xs at (position_or_len_is p xs at d (omega arith) none (λ h. here)) below
+
+pub none_is_position : {X : Type 0} (p : X → Bool) (xs : List X) → ((k : ℕ) (d : X) → k < length xs → p (slice_index_or xs k d) ≡ false) → position p xs ≡ None
+none_is_position p [] none = refl
+none_is_position p (x ∷ xs) none = place_absent p (x ∷ xs) (position_or_len_is p (x ∷ xs) (length (x ∷ xs)) x (omega arith) (λ k h. none k x h) (λ h. absurd (omega arith)))

@@ -2,7 +2,7 @@
 use Rattle.std.proofs.Common.{◌≡◌, ℕ, zero, suc, true, refl, sym, ◌∙◌, ap, subst, inl, inr}
 use Rattle.cc_meaning.specs.declared.program.Base.{Base}
 use Rattle.cc_meaning.specs.declared.program.DexType.{DexType}
-use Rattle.cc_meaning.specs.declared.program.RegType.TheVariants.{Zero, Reference}
+use Rattle.cc_meaning.specs.declared.program.RegType.TheVariants.{Reference}
 use Rattle.cc_meaning_typing.specs.declared.state.State.{State}
 use Rattle.cc_meaning_typing.specs.Types.{typed, array_of, fewer}
 use Rattle.cc_meaning_typing.specs.States.{register_at}

@@ -1,2 +1,4 @@
 pub mod Landmarks
 pub mod Bodies
+pub mod Successors
+pub mod Laws

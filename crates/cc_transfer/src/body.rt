@@ -7,6 +7,7 @@ use crate::landmarks::Landmarks;
 use cc_meaning::program::{Code, Method, Program};
 
 /// A method with code, in its program, and what rules look for there.
+#[derive(Clone, Copy)]
 pub struct MethodBody<'a> {
     pub program: &'a Program,
     pub method: &'a Method,

@@ -32,12 +32,7 @@ pub(crate) fn accepts_move(
     }
 }
 
-pub(crate) fn accepts_move_result(
-    body: &MethodBody<'_>,
-    state: &State,
-    kind: Kind,
-    to: u16,
-) -> bool
+pub(crate) fn accepts_move_result(body: &MethodBody<'_>, state: &State, kind: Kind, to: u16) -> bool
     ensures { (at : ℕ) → (IsTrue result ↔ Accepts (body_of body.now) at state.now (insn.MoveResult kind to)) }
 {
     match state.pending {
@@ -57,12 +52,7 @@ pub(crate) fn accepts_move_exception(body: &MethodBody<'_>, state: &State, to: u
     }
 }
 
-pub(crate) fn accepts_return(
-    body: &MethodBody<'_>,
-    state: &State,
-    kind: Kind,
-    from: u16,
-) -> bool
+pub(crate) fn accepts_return(body: &MethodBody<'_>, state: &State, kind: Kind, from: u16) -> bool
     ensures { (at : ℕ) → (IsTrue result ↔ Accepts (body_of body.now) at state.now (insn.Return kind from)) }
 {
     match body.method.result {

@@ -2,7 +2,7 @@
 
 ghost use Rattle.std.specs.Prelude.{◌≡◌, ◌+◌, ◌≤◌, ◌⊎◌, ◌↔◌, IsTrue, Some, None};
 ghost use Rattle.cc_meaning_typing.specs.Hierarchy.{IsHierarchy, superclass_of, object_class};
-ghost use Rattle.cc_meaning_typing.specs.Types.{is_loose, IsBelow, class_above, next_above, least_above};
+ghost use Rattle.cc_meaning_typing.specs.Types.{is_loose, is_same_base, is_same_type, IsBelow, class_above, next_above, least_above};
 ghost use Rattle.cc_meaning_typing.specs.Heights.{rank};
 
 use cc_meaning::lists::ClassIx;
@@ -110,8 +110,10 @@ fn above(program: &Program, object: ClassIx, of: DexType) -> DexType
     }
 }
 
+#[tactic(auto, unfolding(cc_meaning_typing::specs::Types::is_same_base))]
 fn same_base(a: Base, b: Base) -> bool
-    ensures { IsTrue result ↔ (a ≡ b) }
+    ensures equal { IsTrue result ↔ (a ≡ b) }
+    ensures test { result ≡ is_same_base a b }
 {
     match (a, b) {
         (Base::Boolean, Base::Boolean) => true,
@@ -126,8 +128,10 @@ fn same_base(a: Base, b: Base) -> bool
 }
 
 /// Whether two types are one.
+#[tactic(auto, unfolding(cc_meaning_typing::specs::Types::is_same_type))]
 pub fn same_type(a: DexType, b: DexType) -> bool
-    ensures { IsTrue result ↔ (a ≡ b) }
+    ensures equal { IsTrue result ↔ (a ≡ b) }
+    ensures test { result ≡ is_same_type a b }
 {
     a.dims == b.dims && same_base(a.base, b.base)
 }

@@ -1,7 +1,6 @@
-use Rattle.std.proofs.Common.{◌≡◌, refl, sym, ◌∙◌, subst}
+use Rattle.std.proofs.Common.{◌≡◌, sym, ◌∙◌}
 use Rattle.cc_meaning.specs.declared.program.DexType.{DexType}
 use Rattle.cc_meaning.specs.Kinds.{kind_of}
-use Rattle.cc_meaning_typing.specs.Code.{element_of}
 use Rattle.cc_transfer.proofs.Elements.{array_holds, array_held}
 use Rattle.cc_transfer.proofs.arrays.holds_array_of.Goals as goal
 

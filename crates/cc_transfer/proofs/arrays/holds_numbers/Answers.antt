@@ -1,8 +1,7 @@
-use Rattle.std.proofs.Common.{◌≡◌, Some, refl, sym, ◌∙◌, subst}
+use Rattle.std.proofs.Common.{◌≡◌, Some, sym, ◌∙◌}
 use Rattle.cc_meaning.specs.declared.program.DexType.{DexType}
 use Rattle.cc_meaning.specs.Kinds.{kind_of}
 use Rattle.cc_meaning_typing.specs.Rules.{number_width}
-use Rattle.cc_meaning_typing.specs.Code.{element_of}
 use Rattle.cc_transfer.proofs.Elements.{array_holds, array_held}
 use Rattle.cc_transfer.proofs.arrays.holds_numbers.Goals as goal
 

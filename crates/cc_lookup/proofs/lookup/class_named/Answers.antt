@@ -8,7 +8,7 @@ use Rattle.std.specs.declared.cmp.Ordering.TheVariants.{Less, Equal, Greater}
 use Rattle.std.proofs.lemmas.Fn.{always_returns_same}
 use Rattle.cc_meaning.specs.declared.program.Class.{Class}
 use Rattle.cc_lookup.proofs.ByName.{rises_by_index, found_is_position, absent_is_position}
-use Rattle.cc_lookup.proofs.class_named.Goals as goal
+use Rattle.cc_lookup.proofs.lookup.class_named.Goals as goal
 
 none_equal : {X : Type 0} (ord : X → Ordering) (xs : List X) (i : ℕ) → IsPartitionPoint (λ y. ord y ≡ Less) (λ y. ord y ≡ Greater) xs i → All (λ y. ord y ≢ Equal) xs
 none_equal ord xs i h k d below same = grind (arith, h.0 k d, h.1 k d)
