@@ -8,3 +8,4 @@ pub mod Room
 pub mod Order
 pub mod FaultLaws
 pub mod Spreading
+pub mod Standing

@@ -1,16 +1,29 @@
 -- The laws of tries and of faults.
-use Rattle.std.specs.Prelude.{◌≡◌, ℕ, ◌<◌, true, length, Option, Some}
+use Rattle.std.specs.Prelude.{◌≡◌, ℕ, ◌+◌, ◌<◌, ◌^◌, true, length, take, Option, Some, slice_get}
 use Rattle.cc_meaning.specs.declared.fault.VerifyFault.{VerifyFault}
+use Rattle.cc_meaning.specs.declared.program.Code.{Code}
 use Rattle.cc_meaning.specs.declared.program.Placed.{Placed}
 use Rattle.cc_meaning.specs.declared.program.Program.{Program}
 use Rattle.cc_meaning_typing.specs.declared.state.State.{State}
 use Rattle.cc_meaning_typing.specs.Hierarchy.{IsHierarchy}
 use Rattle.cc_meaning_typing.specs.Code.{Body, placed_at}
 use Rattle.cc_meaning_typing.specs.Typing.{Typing, Leads, IsTyping, HasTyping}
+use Rattle.cc_meaning_typing.specs.WellFormed.{IsLaidOut}
 use Rattle.cc_meaning_typing.specs.WellTyped.{TargetsStand, Reaches, IsSound, WellTyped}
-use Rattle.cc_meaning_verify.specs.Tries.{units_of, States, state_at, lead, Due, Marks, tried, DueAfter, Passes, Tries, After, EndsWith, BreaksAt}
+use Rattle.cc_meaning_verify.specs.Tries.{units_in, units_of, States, state_at, lead, Due, Marks, tried, DueAfter, Passes, Tries, After, EndsWith, BreaksAt}
 use Rattle.cc_meaning_verify.specs.Faults.{IsTooWide, StaysWithin, IsFaultOf, IsFirstFault, FitsWidth}
 use Rattle.cc_meaning_verify.specs.Ending.{width_of, tries_room, AreNarrowStates}
+
+-- Instructions stand behind the units of those before them, and all before the end, at an address of 32 bits.
+pub record StandInOrder (code : Code) : Type 0 where
+  pub starts : (k : ℕ) (placed : Placed) → slice_get code.insns k ≡ Some placed → placed.at ≡ units_in (take k code.insns)
+  pub more : (k : ℕ) (placed : Placed) → slice_get code.insns k ≡ Some placed → units_in (take (k + 1) code.insns) ≡ units_in (take k code.insns) + placed.units
+  pub within : (at : ℕ) (placed : Placed) → placed_at code at ≡ Some placed → at < units_of code
+  pub ends : (at : ℕ) (placed : Placed) → placed_at code at ≡ Some placed → placed.at + placed.units < 2 ^ 32
+  pub fits : units_of code < 2 ^ 32
+
+abbrev pub LaidOutStands : Type 0
+LaidOutStands = (code : Code) → IsLaidOut code → StandInOrder code
 
 -- Control stays within a method: targets stand, it reaches instructions alone, and each of them begins before the end of the code.
 pub record IsClosed (body : Body) : Type 0 where

@@ -1,9 +1,14 @@
 //! How a verifier finds the least typing of a method, and which fault is a program's first: definitions and laws.
 #![tactic(auto)]
 
-ghost use Rattle.cc_meaning_verify.specs.Laws.{LeadsSpread, FindTypings, CoverTries, ShrinkTries, OneFault, SoundHasNoFault, OneFirstFault, WellTypedHasNoFault};
+ghost use Rattle.cc_meaning_verify.specs.Laws.{LaidOutStands, LeadsSpread, FindTypings, CoverTries, ShrinkTries, OneFault, SoundHasNoFault, OneFirstFault, WellTypedHasNoFault};
 
 use cc_meaning_typing::{law_growth, law_rules, law_state_join, law_states};
+
+/// Instructions that are laid out stand behind the units of those before them, and all before the end.
+pub fn law_laid_out()
+    ensures { LaidOutStands }
+{}
 
 /// Where control comes to an address states grow, and so they do over several addresses.
 #[tactic(auto, using(crate::proofs::Spreading::leads_spread))]
