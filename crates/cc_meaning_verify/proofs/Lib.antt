@@ -1,0 +1,11 @@
+pub mod Reading
+pub mod Growing
+pub mod Width
+pub mod Closed
+pub mod Typings
+pub mod Covered
+pub mod Room
+pub mod Order
+pub mod FaultLaws
+pub mod Spreading
+pub mod Standing

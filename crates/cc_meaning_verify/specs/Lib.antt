@@ -1,0 +1,4 @@
+pub mod Tries
+pub mod Faults
+pub mod Ending
+pub mod Laws

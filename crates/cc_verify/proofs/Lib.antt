@@ -1,0 +1,5 @@
+pub mod Tables
+pub mod Steps
+pub mod Lowest
+pub mod Reaching
+pub mod Verdicts

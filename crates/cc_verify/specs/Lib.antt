@@ -1,0 +1,4 @@
+pub mod Tables
+pub mod Lowest
+pub mod Reaching
+pub mod Verdicts
