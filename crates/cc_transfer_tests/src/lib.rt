@@ -1,8 +1,0 @@
-//! Tests of the rules of instructions. They stand in a crate of their own, since a crate with tests is proved twice.
-#![tactic(auto)]
-
-#[cfg(test)]
-mod addresses;
-#[cfg(test)]
-mod rules;
-mod sample;
