@@ -1,5 +1,5 @@
 -- Definitions of names that are taken, and members that stand twice.
-use Rattle.std.proofs.Common.{◌≡◌, ◌≢◌, ◌⊎◌, inl, inr, ℕ, ◌+◌, ◌<◌, ◌≤◌, true, false, List, length, get_or, map, ltb, Option, Some, None, slice_get, refl, ap, subst, sym, ◌∙◌, arith}
+use Rattle.std.proofs.Common.{◌≡◌, ◌⊎◌, inl, inr, ℕ, ◌+◌, ◌<◌, ◌≤◌, true, false, List, length, get_or, map, ltb, Some, None, slice_get, refl, ap, subst, sym, ◌∙◌, arith}
 use Rattle.std.specs.Prelude.{◌↔◌, Bool, IsTrue}
 use Rattle.std.proofs.lemmas.Bool.{cases_lt}
 use Rattle.std.proofs.lemmas.Bool.Decides.{nat_tests}
@@ -12,7 +12,7 @@ use Rattle.cc_meaning_program.specs.Named.{field_member, method_member}
 use Rattle.cc_meaning_program.specs.Definitions.{Defines}
 use Rattle.cc_meaning_program.specs.ClassFaults.{Repeats, IsDuplicate, of_built_in, of_class, of_field, of_method, NoneIs}
 use Rattle.cc_hierarchy.specs.Indexes.{IsFirstOf, defined_name}
-use Rattle.cc_hierarchy.specs.Judging.{IsTakenName, built_in, defined, RepeatsMember, field, method, HasOneEach, IsFirst}
+use Rattle.cc_hierarchy.specs.Judging.{IsTakenName, built_in, defined, RepeatsMember, field, method, HasOneEach}
 use Rattle.cc_hierarchy.proofs.Defining.{defines_named, named_defines, defines_within}
 
 -- ---- names that are taken

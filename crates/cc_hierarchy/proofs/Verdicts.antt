@@ -1,9 +1,9 @@
 -- What the first definition that is so says of the whole.
-use Rattle.std.proofs.Common.{◌≡◌, ℕ, ◌<◌, List, length, Option, Some, None, ap, subst, sym, ◌∙◌, arith}
+use Rattle.std.proofs.Common.{◌≡◌, ℕ, ◌<◌, List, length, Option, Some, None, subst, sym, arith}
 use Rattle.std.specs.Prelude.{MatchOption}
 use Rattle.cc_meaning.specs.declared.file.Ids.{Ids}
 use Rattle.cc_meaning.specs.declared.file.RawClass.{RawClass}
-use Rattle.cc_meaning_program.specs.ClassFaults.{NamesFirst, NoneIs, IsDuplicate, LacksSuperclass, IsAboveItself, AreSound}
+use Rattle.cc_meaning_program.specs.ClassFaults.{NamesFirst, NoneIs, IsDuplicate, LacksSuperclass, IsAboveItself}
 use Rattle.cc_hierarchy.specs.Graphs.{Reaches, IsFirstOnCycle, IsWhole}
 use Rattle.cc_hierarchy.specs.Indexes.{defined_name}
 use Rattle.cc_hierarchy.specs.Judging.{IsFirst, ShowsAbove}

@@ -1,4 +1,4 @@
-use Rattle.std.proofs.Common.{◌⊎◌, ℕ, subst, take, arith}
+use Rattle.std.proofs.Common.{◌⊎◌, subst, arith}
 use Rattle.std.specs.Prelude.{◌↔◌, Contains}
 use Rattle.cc_hierarchy.proofs.Extending.{BySuperclass, ByInterface, interfaces_none, interfaces_more, next_above_iff}
 use Rattle.cc_hierarchy.proofs.Searching.{taken_all}

@@ -1,4 +1,4 @@
-use Rattle.std.proofs.Common.{ℕ, ◌<◌, length, refl, arith}
+use Rattle.std.proofs.Common.{◌<◌, length, refl, arith}
 use Rattle.cc_hierarchy.proofs.Certifying.{descends_more, edge_from_within}
 use Rattle.cc_hierarchy.proofs.Searching.{row_is}
 use Rattle.cc_hierarchy.proofs.cycles.descends.Goals as goal

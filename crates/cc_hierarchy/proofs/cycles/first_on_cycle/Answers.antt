@@ -1,4 +1,4 @@
-use Rattle.std.proofs.Common.{ℕ, ◌<◌, length, arith}
+use Rattle.std.proofs.Common.{◌<◌, length, arith}
 use Rattle.cc_hierarchy.proofs.Certifying.{on_no_cycle, way_from_within}
 use Rattle.cc_hierarchy.proofs.cycles.first_on_cycle.Goals as goal
 

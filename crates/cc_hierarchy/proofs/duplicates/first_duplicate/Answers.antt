@@ -1,4 +1,4 @@
-use Rattle.std.proofs.Common.{◌≡◌, ℕ, ◌<◌, true, false, length, refl, sym, ◌∙◌, arith}
+use Rattle.std.proofs.Common.{◌≡◌, ◌<◌, true, false, length, refl, sym, ◌∙◌, arith}
 use Rattle.std.proofs.lemmas.Option.{slice_get_read}
 use Rattle.cc_meaning_program.specs.ClassFaults.{IsDuplicate}
 use Rattle.cc_hierarchy.proofs.Duplicating.{duplicate, no_duplicate, duplicate_within, none_more}

@@ -1,7 +1,7 @@
-use Rattle.std.proofs.Common.{◌≡◌, ℕ, true, false, refl, ap, sym, subst, ◌∙◌}
+use Rattle.std.proofs.Common.{refl, ap, sym, subst, ◌∙◌}
 use Rattle.cc_meaning.specs.BuiltIn.{is_built_in}
 use Rattle.cc_meaning_program.specs.Definitions.{Defines}
-use Rattle.cc_hierarchy.specs.Indexes.{defined_name, IsFirstOf}
+use Rattle.cc_hierarchy.specs.Indexes.{IsFirstOf}
 use Rattle.cc_hierarchy.proofs.Duplicating.{taken_by_built_in, taken_iff, not_taken}
 use Rattle.cc_hierarchy.proofs.duplicates.is_taken_name.Goals as goal
 

@@ -1,5 +1,5 @@
-use Rattle.std.proofs.Common.{ℕ, Some, None, subst}
-use Rattle.cc_meaning_program.specs.ClassFaults.{NoneIs, IsDuplicate, LacksSuperclass}
+use Rattle.std.proofs.Common.{ℕ}
+use Rattle.cc_meaning_program.specs.ClassFaults.{NoneIs, IsDuplicate}
 use Rattle.cc_hierarchy.specs.Graphs.{IsFirstOnCycle, Reaches}
 use Rattle.cc_hierarchy.specs.Judging.{IsFirst}
 use Rattle.cc_hierarchy.proofs.Duplicating.{one_each}

@@ -1,4 +1,4 @@
-use Rattle.std.proofs.Common.{◌≡◌, ◌≢◌, ℕ, ◌-◌, ◌<◌, ◌≤◌, get_or}
+use Rattle.std.proofs.Common.{◌≢◌, ℕ, ◌-◌, ◌<◌, ◌≤◌, get_or}
 use Rattle.cc_hierarchy.specs.Members.{member_at}
 use Rattle.cc_hierarchy.proofs.repeats.has_tie.Given as goal
 

@@ -1,4 +1,4 @@
-use Rattle.std.proofs.Common.{rules, ◌≡◌, List, ℕ, length, sym, subst}
+use Rattle.std.proofs.Common.{rules, length, sym, subst}
 use Rattle.std.proofs.lemmas.Fn.{always_returns_same}
 use Rattle.cc_hierarchy.specs.Indexes.{comes_before, IsIndex}
 use Rattle.cc_hierarchy.specs.Members.{member_at}

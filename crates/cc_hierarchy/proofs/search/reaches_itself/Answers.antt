@@ -1,6 +1,6 @@
-use Rattle.std.proofs.Common.{◌≡◌, ℕ, ◌<◌, List, length, get_or, subst, sym, ◌∙◌, arith}
+use Rattle.std.proofs.Common.{◌<◌, length, subst, ◌∙◌, arith}
 use Rattle.std.specs.Prelude.{Contains}
-use Rattle.cc_hierarchy.proofs.Searching.{Searched, edge_there, row_is, searched_first, searched_more, searched_all, awaited_within, nothing_held}
+use Rattle.cc_hierarchy.proofs.Searching.{edge_there, row_is, searched_first, searched_more, searched_all, awaited_within, nothing_held}
 use Rattle.cc_hierarchy.proofs.search.reaches_itself.Goals as goal
 
 pub mark_all-requires : goal.mark_all-requires

@@ -1,4 +1,4 @@
-use Rattle.std.proofs.Common.{ℕ, ◌+◌, length, not}
+use Rattle.std.proofs.Common.{◌+◌, length, not}
 use Rattle.std.specs.Prelude.{count_by}
 use Rattle.cc_hierarchy.proofs.Searching.{Searched}
 use Rattle.cc_hierarchy.proofs.search.reaches_itself.Given as goal

@@ -1,5 +1,5 @@
 use Rattle.std.proofs.Common.{◌≡◌, true, false, refl, sym, ◌∙◌}
-use Rattle.cc_meaning_program.specs.ClassFaults.{IsClosed, interface, array, string, builder}
+use Rattle.cc_meaning_program.specs.ClassFaults.{interface, array, string, builder}
 use Rattle.cc_hierarchy.proofs.superclasses.is_closed.Goals as goal
 
 pub returns-then-is_array : goal.returns-then-is_array

@@ -1,7 +1,7 @@
-use Rattle.std.proofs.Common.{rules, ◌≡◌, List, ℕ, length, sym, subst, ap, ◌∙◌}
+use Rattle.std.proofs.Common.{rules, length, sym, subst, ap, ◌∙◌}
 use Rattle.std.specs.List.{range_with_len}
 use Rattle.std.proofs.lemmas.Fn.{always_returns_same}
-use Rattle.cc_hierarchy.specs.Indexes.{defined_name, comes_before, Indexes, IsIndex}
+use Rattle.cc_hierarchy.specs.Indexes.{defined_name, comes_before, IsIndex}
 use Rattle.cc_hierarchy.proofs.Indexing.{index_sorted}
 use Rattle.cc_hierarchy.proofs.NameOrder.{weak_order}
 use Rattle.cc_hierarchy.proofs.definitions.Definitions.new.Goals as goal
