@@ -1,9 +1,8 @@
 //! The superclasses of the built-in classes.
 
-ghost use Rattle.std.specs.Prelude.{◌≡◌, ℕ, List, find, option_map};
-ghost use Rattle.std.specs.Str.{bytes_eq};
+ghost use Rattle.std.specs.Prelude.{◌≡◌, option_map};
 ghost use Rattle.cc_meaning.specs.BuiltIn.{built_in_superclass};
-ghost use Rattle.cc_outline.specs.Below.{Below, superclass_in};
+ghost use Rattle.cc_outline.specs.Below.{superclass_in};
 
 use cc_hierarchy::spells;
 

@@ -1,7 +1,6 @@
 //! Where classes come from, by their names.
 
-ghost use Rattle.std.specs.Prelude.{◌≡◌, ◌-◌, List, ℕ, drop, length, if◌then◌else◌};
-ghost use Rattle.std.specs.Str.{bytes_eq};
+ghost use Rattle.std.specs.Prelude.{◌≡◌};
 ghost use Rattle.cc_meaning.specs.declared.file.Ids.{Ids};
 ghost use Rattle.cc_meaning_file.specs.Descriptors.{begins_with};
 ghost use Rattle.cc_meaning_resolution.specs.Ancestry.{ends_in, is_exception, is_error, is_defined, outside_kind, kind_of_class};

@@ -1,9 +1,9 @@
 //! Classes from the topmost down.
 
-ghost use Rattle.std.specs.Prelude.{◌≡◌, ◌⊎◌, ◌↔◌, ◌+◌, ◌<◌, ◌^◌, ℕ, [], length, not, count_by, IfOk, OnOk};
+ghost use Rattle.std.specs.Prelude.{◌≡◌, ◌⊎◌, ◌↔◌, ◌+◌, ◌<◌, ◌^◌, ℕ, length, not, count_by, IfOk};
 ghost use Rattle.std.specs.Bool.{OnTrue, OnFalse};
 ghost use Rattle.cc_hierarchy.specs.Graphs.{IsMarked};
-ghost use Rattle.cc_outline.specs.FromTheTop.{AllLead, AreFromTheTop, AreTaken, ClassesLead, IsClimb};
+ghost use Rattle.cc_outline.specs.FromTheTop.{AllLead, AreFromTheTop, ClassesLead, IsClimb};
 
 use cc_list::List;
 use cc_meaning::fault::Memory;
