@@ -1,0 +1,3 @@
+pub mod OwnFields
+pub mod Climbing
+pub mod Settling

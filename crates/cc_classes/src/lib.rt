@@ -1,0 +1,5 @@
+//! The classes of a program.
+#![tactic(auto)]
+
+mod fields;
+mod layouts;
