@@ -1,3 +1,5 @@
 pub mod OwnFields
 pub mod Climbing
 pub mod Settling
+pub mod Holding
+pub mod Beginning

@@ -2,4 +2,6 @@
 #![tactic(auto)]
 
 mod fields;
+mod initialisers;
 mod layouts;
+mod values;
