@@ -1,3 +1,4 @@
 pub mod Layouts
 pub mod Initialisers
 pub mod Values
+pub mod Made

@@ -4,4 +4,5 @@
 mod fields;
 mod initialisers;
 mod layouts;
+mod making;
 mod values;
