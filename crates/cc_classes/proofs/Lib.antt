@@ -3,3 +3,4 @@ pub mod Climbing
 pub mod Settling
 pub mod Holding
 pub mod Beginning
+pub mod Turning
