@@ -4,3 +4,11 @@ pub mod Settling
 pub mod Holding
 pub mod Beginning
 pub mod Turning
+pub mod Places
+pub mod Outlined
+pub mod Layered
+pub mod Begun
+pub mod Valued
+pub mod Starting
+pub mod Listed
+pub mod ByName

@@ -2,3 +2,4 @@ pub mod Layouts
 pub mod Initialisers
 pub mod Values
 pub mod Made
+pub mod Parts

@@ -5,4 +5,8 @@ mod fields;
 mod initialisers;
 mod layouts;
 mod making;
+mod program;
 mod values;
+
+pub use making::Parts;
+pub use program::classes;
