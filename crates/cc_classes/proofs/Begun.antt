@@ -1,11 +1,9 @@
 -- The method that begins a class is the one of its whole name.
-use Rattle.std.proofs.Common.{◌≡◌, ◌⊎◌, inl, inr, ℕ, zero, suc, Bool, true, false, cond, List, [], ◌∷◌, ◌++◌, length, map, replicate, Option, Some, None, position, refl, sym, ap, ◌∙◌, subst, arith}
-use Rattle.std.specs.Prelude.{slice_get, slice_index_or, option_and_then, codes, not, ◌==◌, ◌&&◌}
+use Rattle.std.proofs.Common.{◌≡◌, ℕ, zero, suc, Bool, true, false, List, [], ◌∷◌, ◌++◌, replicate, Option, Some, None, refl, sym, ap, ◌∙◌, subst, arith}
+use Rattle.std.specs.Prelude.{slice_index_or, codes, not, ◌==◌, ◌&&◌}
 use Rattle.std.specs.List.{flat_map, list_all}
-use Rattle.std.specs.Str.{bytes_eq}
 use Rattle.std.proofs.lemmas.Bool.Decides.{nat_tests}
-use Rattle.std.proofs.lemmas.List.{append_assoc, append_cancel_left}
-use Rattle.std.proofs.lemmas.Slice.Eq.{bytes_eq-Decides}
+use Rattle.std.proofs.lemmas.List.{append_assoc}
 use Rattle.cc_meaning.specs.declared.file.Ids.{Ids}
 use Rattle.cc_meaning.specs.declared.file.RawClass.{RawClass}
 use Rattle.cc_meaning.specs.declared.program.Base.{Base}
@@ -13,14 +11,14 @@ use Rattle.cc_meaning.specs.declared.program.Base.TheVariants as base
 use Rattle.cc_meaning.specs.declared.program.DexType.{DexType}
 use Rattle.cc_meaning.specs.declared.program.Method.{Method}
 use Rattle.cc_meaning.specs.declared.program.Program.{Program}
-use Rattle.cc_meaning.specs.Names.{descriptor, result_descriptor, prototype, member_name, method_name, class_name}
+use Rattle.cc_meaning.specs.Names.{descriptor, result_descriptor, prototype, member_name}
 use Rattle.cc_meaning_file.specs.Descriptors.{begins_with, names_class}
 use Rattle.cc_meaning_program.specs.TypeNames.{base_spelled, type_spelled, IsBase, Spells}
 use Rattle.cc_meaning_resolution.specs.Members.{Pairs, ResultSpelled, IsMethod}
-use Rattle.cc_meaning_resolution.specs.Programs.{is_run, static_with_code}
-use Rattle.cc_meaning_resolution.specs.Resolved.{names_of, whole_name}
+use Rattle.cc_meaning_resolution.specs.Programs.{is_run}
+use Rattle.cc_meaning_resolution.specs.Resolved.{names_of}
 use Rattle.cc_meaning_resolution.proofs.Alike.{descriptor_by_names}
-use Rattle.cc_classes.specs.Initialisers.{Begins, IsInitialiser, AreInitialisers}
+use Rattle.cc_classes.specs.Initialisers.{Begins}
 
 -- ---- texts that are taken apart
 

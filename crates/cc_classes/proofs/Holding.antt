@@ -1,5 +1,5 @@
 -- The values of fields, field by field.
-use Rattle.std.proofs.Common.{◌≡◌, ◌≢◌, ◌⊎◌, inl, inr, ℕ, suc, ◌+◌, ◌<◌, ◌≤◌, Bool, true, false, List, [], ◌∷◌, ◌++◌, length, get_or, take, Option, Some, None, refl, sym, ap, ◌∙◌, subst, arith}
+use Rattle.std.proofs.Common.{◌≡◌, ◌⊎◌, inl, inr, ℕ, suc, ◌+◌, ◌<◌, ◌≤◌, true, false, List, [], ◌∷◌, ◌++◌, length, get_or, take, Option, Some, None, refl, sym, ap, ◌∙◌, subst, arith}
 use Rattle.std.specs.Prelude.{slice_get, is_some, Contains}
 use Rattle.std.proofs.lemmas.List.{length-append, length-take, get_or-take}
 use Rattle.std.proofs.lemmas.Option.{slice_get_within, slice_get-get_or, get_or_from_slice_get}
@@ -10,7 +10,7 @@ use Rattle.cc_meaning_linking.specs.declared.plan.FieldPlan.{FieldPlan}
 use Rattle.cc_meaning_linking.specs.declared.plan.FieldSource.{FieldSource}
 use Rattle.cc_meaning_linking.specs.declared.plan.FieldSource.TheVariants as source
 use Rattle.cc_classes.specs.Values.{listed_for, listed_at, IsNumbered, Holds, AreHeld}
-use Rattle.cc_classes.proofs.Climbing.{at_cases, at_old, at_new}
+use Rattle.cc_classes.proofs.Climbing.{at_cases}
 
 -- ---- one value
 

@@ -1,5 +1,5 @@
 -- A layout by numbers is one by names.
-use Rattle.std.proofs.Common.{◌≡◌, ℕ, suc, ◌<◌, Bool, false, List, [], ◌∷◌, ◌++◌, length, map, reverse, get_or, Option, Some, None, refl, sym, ap, ◌∙◌, subst, arith}
+use Rattle.std.proofs.Common.{◌≡◌, ℕ, ◌<◌, Bool, false, List, [], ◌∷◌, ◌++◌, length, reverse, get_or, Option, Some, None, refl, sym, ap, ◌∙◌, subst, arith}
 use Rattle.std.specs.Prelude.{slice_get, unwrap_or}
 use Rattle.std.specs.List.{flat_map}
 use Rattle.std.proofs.lemmas.Grind.{flat_map-append, reverse_onto}
@@ -15,9 +15,9 @@ use Rattle.cc_meaning_resolution.specs.Programs.{fields_from, fields_of}
 use Rattle.cc_meaning_resolution.proofs.Once.{ancestry_once}
 use Rattle.cc_meaning_linking.specs.declared.outline.Outline.{Outline}
 use Rattle.cc_meaning_linking.specs.Climbing.{ClassesHaveAncestries}
-use Rattle.cc_meaning_linking.specs.Outlines.{IsNumberOf, IsOutline, AreOutlines}
+use Rattle.cc_meaning_linking.specs.Outlines.{IsNumberOf, AreOutlines}
 use Rattle.cc_meaning_linking.specs.Plans.{name_at}
-use Rattle.cc_classes.specs.Layouts.{own_fields, AreOwnFields, superclass_in, superclass_at, Falls, HasHeights, IsLayout}
+use Rattle.cc_classes.specs.Layouts.{own_fields, AreOwnFields, superclass_in, superclass_at, HasHeights, IsLayout}
 
 pub own_by_name : (program : Program) (s : Bool) (n : ℕ) (name : List ℕ) → class_named name program ≡ Some n → fields_of program s name ≡ own_fields s program.fields n
 unfolding fields_of own_fields

@@ -1,8 +1,7 @@
 -- The initialiser of a class by numbers is the static method with code of its name.
-use Rattle.std.proofs.Common.{◌≡◌, ◌≢◌, ℕ, ◌<◌, Bool, true, false, cond, List, [], ◌++◌, length, get_or, Option, Some, None, position, refl, sym, ap, ◌∙◌, subst, arith}
-use Rattle.std.specs.Prelude.{slice_get, option_and_then, unwrap_or, codes, Contains}
+use Rattle.std.proofs.Common.{◌≡◌, ℕ, ◌<◌, Bool, true, false, cond, List, [], ◌++◌, length, Option, Some, None, refl, sym, ap, ◌∙◌, subst}
+use Rattle.std.specs.Prelude.{slice_get, option_and_then, unwrap_or, codes}
 use Rattle.std.specs.Str.{bytes_eq}
-use Rattle.std.proofs.lemmas.List.{append_cancel_left}
 use Rattle.std.proofs.lemmas.Option.{slice_get_within, get_or_from_slice_get}
 use Rattle.std.proofs.lemmas.Slice.Eq.{bytes_eq-Decides}
 use Rattle.cc_meaning.specs.declared.file.Ids.{Ids}
@@ -13,11 +12,9 @@ use Rattle.cc_meaning.specs.declared.program.Program.{Program}
 use Rattle.cc_meaning.specs.Lookup.{class_named, method_named}
 use Rattle.cc_meaning.specs.Names.{member_name, method_name, class_name, name_or_none}
 use Rattle.cc_meaning_file.specs.Descriptors.{IsDescriptor}
-use Rattle.cc_meaning_classes.specs.Rows.{descriptor_of}
 use Rattle.cc_meaning_program.specs.ClassNames.{AreClassNames}
 use Rattle.cc_meaning_program.specs.Named.{type_name}
 use Rattle.cc_meaning_resolution.specs.Laws.{AreDescriptors}
-use Rattle.cc_meaning_resolution.specs.Members.{IsMethod}
 use Rattle.cc_meaning_resolution.specs.Programs.{is_run, static_with_code}
 use Rattle.cc_meaning_resolution.specs.Resolved.{names_of, whole_name}
 use Rattle.cc_meaning_resolution.proofs.Leading.{class_name_leads, same_class, same_member}
@@ -26,7 +23,7 @@ use Rattle.cc_meaning_resolution.proofs.SameNames.{found_mapped}
 use Rattle.cc_meaning_linking.specs.Rows.{FitTables}
 use Rattle.cc_meaning_linking.specs.declared.plan.FieldPlan.{FieldPlan}
 use Rattle.cc_meaning.specs.declared.program.Field.{Field}
-use Rattle.cc_classes.specs.Initialisers.{Begins, IsInitialiser, AreInitialisers}
+use Rattle.cc_classes.specs.Initialisers.{IsInitialiser, AreInitialisers}
 use Rattle.cc_classes.specs.Parts.{HasParts}
 use Rattle.cc_classes.proofs.Begun.{begins_by_name, member_by_begins}
 use Rattle.cc_classes.proofs.Outlined.{name_is, number_is}

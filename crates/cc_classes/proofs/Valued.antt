@@ -1,10 +1,9 @@
 -- The value of a field by its number is that by its name.
-use Rattle.std.proofs.Common.{◌≡◌, ◌≢◌, ◌⊎◌, inl, inr, ℕ, suc, ◌+◌, ◌<◌, ◌≤◌, Bool, true, false, ◌&&◌, cond, List, [], ◌∷◌, ◌++◌, length, map, get_or, Option, Some, None, position, refl, sym, ap, ◌∙◌, subst, arith}
-use Rattle.std.specs.Prelude.{slice_get, option_and_then, unwrap_or, codes, find}
+use Rattle.std.proofs.Common.{◌≡◌, ℕ, ◌<◌, Bool, true, false, List, [], ◌++◌, Option, Some, None, position, refl, sym, ap, ◌∙◌, subst}
+use Rattle.std.specs.Prelude.{slice_get, option_and_then, unwrap_or, codes}
 use Rattle.std.specs.Str.{bytes_eq}
-use Rattle.std.proofs.lemmas.Bool.Decides.{nat_tests}
 use Rattle.std.proofs.lemmas.List.{append_assoc}
-use Rattle.std.proofs.lemmas.Option.{slice_get_within, slice_get-get_or, get_or_from_slice_get, slice_get-map}
+use Rattle.std.proofs.lemmas.Option.{slice_get-map}
 use Rattle.std.proofs.lemmas.Slice.Eq.{bytes_eq-Decides}
 use Rattle.cc_meaning.specs.declared.file.ClassRow.{ClassRow}
 use Rattle.cc_meaning.specs.declared.file.Ids.{Ids}
@@ -13,23 +12,19 @@ use Rattle.cc_meaning.specs.declared.file.RawField.{RawField}
 use Rattle.cc_meaning.specs.declared.program.Field.{Field}
 use Rattle.cc_meaning.specs.declared.program.Method.{Method}
 use Rattle.cc_meaning.specs.declared.program.Program.{Program}
-use Rattle.cc_meaning.specs.declared.program.StaticValue.{StaticValue}
-use Rattle.cc_meaning.specs.declared.program.StaticValue.TheVariants as value
 use Rattle.cc_meaning.specs.Names.{field_name, class_name, descriptor}
-use Rattle.cc_meaning.specs.BuiltIn.{system_name}
-use Rattle.cc_meaning_program.specs.ClassFaults.{AreSound, IsDuplicate, Repeats}
+use Rattle.cc_meaning_program.specs.ClassFaults.{AreSound, IsDuplicate}
 use Rattle.cc_meaning_program.specs.ClassNames.{AreClassNames}
-use Rattle.cc_meaning_program.specs.Named.{type_name, field_member, text_of}
+use Rattle.cc_meaning_program.specs.Named.{type_name, field_member}
 use Rattle.cc_meaning_resolution.specs.Declared.{members_of, field_among, field_defined}
 use Rattle.cc_meaning_resolution.specs.Members.{out_member}
-use Rattle.cc_meaning_resolution.specs.Programs.{fields_from, is_number, same_truth, value_among, value_listed, field_within_class}
+use Rattle.cc_meaning_resolution.specs.Programs.{value_among, value_listed, field_within_class}
 use Rattle.cc_meaning_resolution.specs.Resolved.{names_of, whole_name}
 use Rattle.cc_meaning_resolution.proofs.Leading.{same_class, same_member}
 use Rattle.cc_meaning_resolution.proofs.SameNames.{found_mapped}
 use Rattle.cc_meaning_resolution.proofs.Splitting.{Leads}
 use Rattle.cc_meaning_linking.specs.declared.plan.FieldPlan.{FieldPlan}
 use Rattle.cc_meaning_linking.specs.declared.plan.FieldSource.{FieldSource}
-use Rattle.cc_meaning_linking.specs.declared.plan.FieldSource.TheVariants as source
 use Rattle.cc_meaning_linking.specs.Outlines.{definition_number}
 use Rattle.cc_meaning_linking.specs.Owners.{field_in, field_placed}
 use Rattle.cc_meaning_linking.specs.Plans.{name_at, field_source_member, raw_field_member, field_plan_name, IsFieldSource, AreFieldPlans}
@@ -37,7 +32,7 @@ use Rattle.cc_meaning_linking.specs.Rows.{FitTables}
 use Rattle.cc_classes.specs.Made.{values_in, values_at}
 use Rattle.cc_classes.specs.Parts.{HasParts}
 use Rattle.cc_classes.specs.Values.{listed_for, listed_at}
-use Rattle.cc_classes.proofs.Places.{Placed, placed, find_placed, position_is, position_none, is_same}
+use Rattle.cc_classes.proofs.Places.{Placed, placed, find_placed, position_is, is_same}
 use Rattle.cc_classes.proofs.Starting.{leads_at, class_name_is}
 
 some_is : {A : Type 0} (x y : A) → Some x ≡ Some y → x ≡ y

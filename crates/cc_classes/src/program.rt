@@ -19,7 +19,7 @@ use cc_meaning_linking::Outlines;
 use std::alloc::Global;
 
 /// The most members that numbers of 32 bits count.
-const MOST: usize = 0xFFFF_FFFF;
+const MOST: usize = u32::MAX as usize;
 
 /// The classes of a program, in the order of their names, by their outlines.
 ///

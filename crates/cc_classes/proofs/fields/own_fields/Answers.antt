@@ -1,4 +1,4 @@
-use Rattle.std.proofs.Common.{◌≡◌, [], arith, sym, ap, ◌∙◌, subst, take, ◌+◌}
+use Rattle.std.proofs.Common.{[], sym, subst, take, ◌+◌}
 use Rattle.cc_classes.specs.Layouts.{AreOwnFields}
 use Rattle.cc_classes.proofs.OwnFields.{own_none, own_kept, own_grown, same_truths, other_truths}
 use Rattle.cc_classes.proofs.fields.own_fields.Goals.{then-field-is_static+in_ok-add, else-field-is_static}

@@ -1,4 +1,4 @@
-use Rattle.std.proofs.Common.{◌≡◌, subst, sym, take, ◌+◌}
+use Rattle.std.proofs.Common.{subst, sym, take, ◌+◌}
 use Rattle.cc_classes.specs.Initialisers.{AreInitialisers}
 use Rattle.cc_classes.proofs.Beginning.{skipped, noted}
 use Rattle.cc_classes.proofs.initialisers.initialisers.Goals.{then-begins, else-begins}

@@ -1,4 +1,4 @@
-use Rattle.std.proofs.Common.{◌≡◌, Some, length, slice_get, refl, ap, ◌∙◌, subst, sym, ◌++◌, arith}
+use Rattle.std.proofs.Common.{◌≡◌, Some, length, slice_get, refl, ap, ◌∙◌, ◌++◌, arith}
 use Rattle.std.proofs.lemmas.Option.{slice_get_read}
 use Rattle.cc_classes.proofs.Settling.{laid_out}
 use Rattle.cc_classes.proofs.layouts.layout.Goals as goal

@@ -1,5 +1,5 @@
-use Rattle.std.proofs.Common.{◌≡◌, Some, ℕ, length, subst, sym, ap, arith}
-use Rattle.cc_classes.specs.Layouts.{superclass_at, Stands, IsLayout}
+use Rattle.std.proofs.Common.{subst, sym, arith}
+use Rattle.cc_classes.specs.Layouts.{Stands}
 use Rattle.cc_classes.proofs.Settling.{next_there, above_stands, still_stands, still_right, still_leads, still_begins}
 use Rattle.cc_classes.proofs.layouts.settle.Goals as goal
 

@@ -1,4 +1,3 @@
-use Rattle.std.proofs.Common.{arith}
 use Rattle.cc_classes.proofs.Climbing.{climbs_step, fewer_left}
 use Rattle.cc_classes.proofs.layouts.unsettled.Goals as goal
 

@@ -1,4 +1,4 @@
-use Rattle.std.proofs.Common.{◌≡◌, ◌<◌, ℕ, List, length, subst, sym}
+use Rattle.std.proofs.Common.{◌<◌, ℕ, List, length, subst, sym}
 use Rattle.std.specs.Prelude.{Contains}
 use Rattle.cc_meaning.specs.declared.program.StaticValue.{StaticValue}
 use Rattle.cc_meaning.specs.declared.program.StaticValue.TheVariants.{Text}

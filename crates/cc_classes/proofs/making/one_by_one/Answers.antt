@@ -1,9 +1,8 @@
-use Rattle.std.proofs.Common.{◌≡◌, ◌<◌, ℕ, List, [], ◌∷◌, ◌++◌, length, get_or, Some, None, slice_get, refl, sym, ap, ◌∙◌, subst, arith}
+use Rattle.std.proofs.Common.{◌≡◌, ◌<◌, ℕ, [], ◌∷◌, ◌++◌, length, get_or, Some, None, slice_get, refl, ◌∙◌, arith}
 use Rattle.std.proofs.lemmas.Iterator.Adapters.{YieldsList-from_vec}
 use Rattle.std.proofs.lemmas.Iterator.Consumers.{YieldsList-turn}
 use Rattle.std.proofs.lemmas.Option.{slice_get_read, slice_get-get_or}
 use Rattle.cc_meaning.specs.declared.program.Class.{Class}
-use Rattle.cc_classes.specs.Layouts.{own_fields}
 use Rattle.cc_classes.specs.Made.{IsMade}
 use Rattle.cc_classes.proofs.Turning.{there_at, stands_yet, taken_right, rest_more, long_more, next_long, each_more}
 use Rattle.cc_classes.proofs.making.one_by_one.Goals as goal

@@ -1,4 +1,4 @@
-use Rattle.std.proofs.Common.{◌≡◌, ℕ, ◌≤◌, length, Some, Option, List}
+use Rattle.std.proofs.Common.{◌≡◌, ℕ, ◌≤◌, length, Some, List}
 use Rattle.std.specs.Prelude.{slice_get}
 use Rattle.cc_meaning.specs.declared.program.Class.{Class}
 use Rattle.cc_classes.specs.Layouts.{AreRight}

@@ -1,7 +1,3 @@
-use Rattle.std.proofs.Common.{◌≡◌, subst, sym}
-use Rattle.std.proofs.lemmas.Option.{slice_get-get_or}
-use Rattle.cc_meaning.specs.declared.program.StaticValue.TheVariants.{Text}
-use Rattle.cc_classes.specs.Values.{IsNumbered}
 use Rattle.cc_classes.proofs.Holding.{unchanged, text_numbered}
 use Rattle.cc_classes.proofs.values.numbered.Goals as goal
 

@@ -1,5 +1,5 @@
-use Rattle.std.proofs.Common.{◌≡◌, Some, None, ℕ, Bool, true, false, Option, subst, sym, ap, ◌∙◌, ◌+◌, refl, arith, length, get_or}
-use Rattle.std.specs.Prelude.{slice_get, is_some}
+use Rattle.std.proofs.Common.{◌≡◌, Some, ℕ, subst, sym, ◌∙◌, ◌+◌, arith, get_or}
+use Rattle.std.specs.Prelude.{slice_get}
 use Rattle.std.proofs.lemmas.Option.{slice_get-get_or}
 use Rattle.cc_meaning.specs.declared.program.StaticValue.TheVariants as value
 use Rattle.cc_classes.proofs.Holding.{AreHeldTo, listed_contained, held_kept, held_more, all_held, not_some}
