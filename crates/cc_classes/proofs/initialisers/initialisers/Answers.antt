@@ -1,6 +1,6 @@
 use Rattle.std.proofs.Common.{subst, sym, take, ◌+◌}
 use Rattle.cc_classes.specs.Initialisers.{AreInitialisers}
-use Rattle.cc_classes.proofs.Beginning.{skipped, noted}
+use Rattle.cc_classes.proofs.Noting.{skipped, noted}
 use Rattle.cc_classes.proofs.initialisers.initialisers.Goals.{then-begins, else-begins}
 use Rattle.cc_classes.proofs.initialisers.initialisers.Goals as goal
 

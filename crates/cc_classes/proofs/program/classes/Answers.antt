@@ -1,6 +1,6 @@
-use Rattle.cc_classes.proofs.ByName.{names_are, class_is}
-use Rattle.cc_classes.proofs.Layered.{heights}
-use Rattle.cc_classes.proofs.Listed.{texts_are}
+use Rattle.cc_classes.proofs.ClassesByName.{names_are, class_is}
+use Rattle.cc_classes.proofs.LayoutsByName.{heights}
+use Rattle.cc_classes.proofs.ValuesByName.{texts_are}
 use Rattle.cc_classes.proofs.program.classes.Goals as goal
 
 pub made-requires-clause-heights : goal.made-requires-clause-heights

@@ -129,8 +129,6 @@ module _ (program : Program) where
   pub begins_by_name : (ids : Ids) (classes : List RawClass) (owner member : List ℕ) (method : Method) → IsMethod ids classes program owner member method → is_run (Some method) ≡ true → member_name program method ≡ codes "<clinit>()V" → Begins method
   begins_by_name ids classes owner member method is run named =
       let types = spelled ids classes owner member method is in
-      let given = flat_map (descriptor program) method.params in
-      let answer = result_descriptor program method.result in
       let opened = around 40 (codes "<clinit>") (codes ")V") method.name ((flat_map (descriptor program) method.params ++ codes ")") ++ result_descriptor program method.result) refl refl named in
       let close = around 41 [] (codes "V") (flat_map (descriptor program) method.params) (result_descriptor program method.result) refl refl (sym (append_assoc (flat_map (descriptor program) method.params) (codes ")") (result_descriptor program method.result)) ∙ opened.1) in
       record {

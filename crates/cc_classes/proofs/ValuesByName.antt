@@ -26,9 +26,9 @@ use Rattle.cc_classes.specs.Layouts.{own_fields}
 use Rattle.cc_classes.specs.Made.{values_in, values_at, TextsAre}
 use Rattle.cc_classes.specs.Parts.{HasParts}
 use Rattle.cc_classes.specs.Values.{listed_at, IsNumbered, Holds, AreHeld}
-use Rattle.cc_classes.proofs.Layered.{own_by_name}
+use Rattle.cc_classes.proofs.LayoutsByName.{own_by_name}
 use Rattle.cc_classes.proofs.Places.{position_by_name}
-use Rattle.cc_classes.proofs.Valued.{listed_is}
+use Rattle.cc_classes.proofs.ListedByName.{listed_is}
 
 some_is : {A : Type 0} (x y : A) → Some x ≡ Some y → x ≡ y
 some_is x y e = cc

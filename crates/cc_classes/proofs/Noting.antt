@@ -26,9 +26,6 @@ same_or_not : (i j : ℕ) → (i ≡ j) ⊎ (i ≢ j)
 same_or_not i j = grind arith
 
 module _ (methods : List Method) (method : Method) (count : ℕ) (found new : List (Option ℕ)) (are : AreInitialisers methods count found) where
-  grown : List Method
-  grown = methods ++ method ∷ []
-
   -- one of those before is one of all
   older : (class number : ℕ) → IsInitialiser methods class number → IsInitialiser (methods ++ method ∷ []) class number
   older class number is = record { method = is.method; there = at_old methods method is.method number is.there; of_class = is.of_class; begins = is.begins }

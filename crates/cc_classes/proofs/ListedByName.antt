@@ -33,7 +33,7 @@ use Rattle.cc_classes.specs.Made.{values_in, values_at}
 use Rattle.cc_classes.specs.Parts.{HasParts}
 use Rattle.cc_classes.specs.Values.{listed_for, listed_at}
 use Rattle.cc_classes.proofs.Places.{Placed, placed, find_placed, position_is, is_same}
-use Rattle.cc_classes.proofs.Starting.{leads_at, class_name_is}
+use Rattle.cc_classes.proofs.InitialisersByName.{leads_at, class_name_is}
 
 some_is : {A : Type 0} (x y : A) → Some x ≡ Some y → x ≡ y
 some_is x y e = cc
@@ -121,7 +121,6 @@ module _ (ids : Ids) (raw : List RawClass) (names : List (List ℕ)) (uses : Lis
       let owned = planned.owned number plan.0 plan.1 in
       let owner : name_at names plan.0.owner ≡ owned.0 = ap (λ o. unwrap_or o []) owned.1 in
       let mine : class_name program field.class ≡ name = ap (class_name program) class ∙ class_name_is program names are n name there in
-      let member : List ℕ = field_source_member ids raw (name_at names plan.0.owner) plan.0.source in
       let full : whole_name owned.0 (field_source_member ids raw (name_at names plan.0.owner) plan.0.source) ≡ whole_name name (field_within_class program field) =
       ap (λ o. whole_name o (field_source_member ids raw (name_at names plan.0.owner) plan.0.source)) (sym owner) ∙ (plan.2 ∙ (whole_field field ∙ ap (λ c. whole_name c (field_within_class program field)) mine)) in
       let leads : Leads owned.0 = leads_at ids names tables named plan.0.owner owned.0 owned.1 in

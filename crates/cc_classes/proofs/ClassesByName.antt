@@ -21,10 +21,10 @@ use Rattle.cc_meaning_linking.specs.Rows.{FitTables}
 use Rattle.cc_classes.specs.Layouts.{AreOwnFields}
 use Rattle.cc_classes.specs.Made.{AreMade}
 use Rattle.cc_classes.specs.Parts.{HasParts}
-use Rattle.cc_classes.proofs.Layered.{laid}
-use Rattle.cc_classes.proofs.Listed.{values_are}
-use Rattle.cc_classes.proofs.Outlined.{number_is, superclass_is, interfaces_are, flag_is}
-use Rattle.cc_classes.proofs.Starting.{initialiser_is}
+use Rattle.cc_classes.proofs.LayoutsByName.{laid}
+use Rattle.cc_classes.proofs.ValuesByName.{values_are}
+use Rattle.cc_classes.proofs.OutlinesByName.{number_is, superclass_is, interfaces_are, flag_is}
+use Rattle.cc_classes.proofs.InitialisersByName.{initialiser_is}
 
 module _ (ids : Ids) (raw : List RawClass) (names : List (List ℕ)) (outlines : List Outline) (plans : List FieldPlan) (fields : List Field) (methods : List Method) (texts : List ℕ) (are : AreOutlines ids names outlines) (classes : List Class) (made : AreMade ids raw names outlines plans fields methods texts classes) where
   pub names_are : map (λ (class : Class). class.name) classes ≡ names

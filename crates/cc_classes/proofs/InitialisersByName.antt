@@ -25,8 +25,8 @@ use Rattle.cc_meaning_linking.specs.declared.plan.FieldPlan.{FieldPlan}
 use Rattle.cc_meaning.specs.declared.program.Field.{Field}
 use Rattle.cc_classes.specs.Initialisers.{IsInitialiser, AreInitialisers}
 use Rattle.cc_classes.specs.Parts.{HasParts}
-use Rattle.cc_classes.proofs.Begun.{begins_by_name, member_by_begins}
-use Rattle.cc_classes.proofs.Outlined.{name_is, number_is}
+use Rattle.cc_classes.proofs.MemberNames.{begins_by_name, member_by_begins}
+use Rattle.cc_classes.proofs.OutlinesByName.{name_is, number_is}
 use Rattle.cc_classes.proofs.Places.{Placed, placed, position_by_name}
 
 -- ---- names of classes
@@ -75,7 +75,6 @@ module _ (ids : Ids) (raw : List RawClass) (names : List (List ℕ)) (plans : Li
   begins : (n k : ℕ) (name : List ℕ) (method : Method) → slice_get names n ≡ Some name → slice_get program.methods k ≡ Some method → method_name program method ≡ whole_name name (codes "<clinit>()V") → is_run (Some method) ≡ true → IsInitialiser methods n k
   begins n k name method there at full run =
       let owned = parts.each_method k method at in
-      let owner : List ℕ = owned.0 in
       let class : slice_get names method.class ≡ Some owned.0 = name_is program names are owned.0 method.class owned.2 in
       let leads : Leads owned.0 = leads_at ids names tables named method.class owned.0 class in
       let also : Leads name = leads_at ids names tables named n name there in
