@@ -1,0 +1,3 @@
+pub mod Gathering
+pub mod Loops
+pub mod Rows
