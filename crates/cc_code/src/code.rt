@@ -78,3 +78,23 @@ fn linked_code(
         tries,
     })
 }
+
+/// The code of a method, with numbers of a program in place of the rows that its instructions and its handlers name. The instructions are changed in
+/// place.
+///
+/// # Errors
+///
+/// `Memory`: there is no memory.
+///
+/// Source: Dalvik Executable format, section code_item.
+pub fn link_code(
+    alloc: Global,
+    links: &Links,
+    stated: &RawCode,
+    insns: Insns,
+) -> Result<Code, Memory>
+    requires { IsLinkable links.now stated.now insns }
+    ensures { IfOk result (λ code. (ids : Ids) (classes : List RawClass) (program : Program) → LinkInto ids classes program links.now → AreInstructions stated.now.units insns → CodeResolved ids classes program stated.now code) }
+{
+    Ok(linked_code(alloc, links, stated, insns)?)
+}

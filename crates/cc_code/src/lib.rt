@@ -3,7 +3,10 @@
 
 mod code;
 mod insns;
+mod laws;
 mod links;
 mod uses;
 
+pub use code::link_code;
+pub use laws::{sound_code_is_linkable, used_rows_are_there};
 pub use uses::{MemberUses, member_uses};

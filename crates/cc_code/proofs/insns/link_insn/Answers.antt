@@ -1,4 +1,5 @@
 use Rattle.cc_code.specs.Linked.{InsnLinked}
+use Rattle.cc_code.proofs.Rows.{insn_stays}
 use Rattle.cc_code.proofs.insns.link_insn.Goals as goal
 
 pub returns-in-ConstText : goal.returns-in-ConstText
@@ -38,4 +39,6 @@ pub returns-in-Invoke : goal.returns-in-Invoke
 returns-in-Invoke c = rw c.in-Invoke.is (InsnLinked.call c.link_method.ensures)
 
 pub returns-in_default : goal.returns-in_default
-returns-in_default c = ?
+returns-in_default c =
+    let other = c.in_default in
+    insn_stays c.args.links.now c.args.insn.now other.not-ConstText other.not-ConstClass other.not-CheckCast other.not-InstanceOf other.not-NewInstance other.not-NewArray other.not-FilledNewArray other.not-FieldGet other.not-FieldPut other.not-StaticGet other.not-StaticPut other.not-Invoke
