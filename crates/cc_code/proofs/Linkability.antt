@@ -1,11 +1,9 @@
 -- In sound bodies each row that code names has a link.
-use Rattle.std.proofs.Common.{◌≡◌, ◌⊎◌, inl, inr, ℕ, ◌<◌, ◌≤◌, true, List, [], ◌∷◌, length, map, Option, Some, None, refl, sym, ap, ◌∙◌, subst, arith}
+use Rattle.std.proofs.Common.{◌≡◌, inl, inr, ℕ, ◌<◌, ◌≤◌, true, List, [], ◌∷◌, length, map, Option, Some, None, refl, sym, ap, ◌∙◌, subst, arith}
 use Rattle.std.specs.Prelude.{slice_get, Contains, IfSome, codes}
 use Rattle.std.proofs.lemmas.List.{length-map}
 use Rattle.std.proofs.lemmas.Option.{slice_get_cases, slice_get_within}
-use Rattle.cc_meaning.specs.declared.file.ClassRow.{ClassRow}
 use Rattle.cc_meaning.specs.declared.file.Ids.{Ids}
-use Rattle.cc_meaning.specs.declared.file.RawCatch.{RawCatch}
 use Rattle.cc_meaning.specs.declared.file.RawClass.{RawClass}
 use Rattle.cc_meaning.specs.declared.file.RawCode.{RawCode}
 use Rattle.cc_meaning.specs.declared.program.DexType.{DexType}
@@ -13,17 +11,15 @@ use Rattle.cc_meaning.specs.declared.program.Placed.{Placed}
 use Rattle.cc_meaning_file.specs.Descriptors.{names_value, IsDescriptor, IsValueDescriptor}
 use Rattle.cc_meaning_program.specs.declared.reference.Reference.{Reference}
 use Rattle.cc_meaning_program.specs.declared.reference.Reference.TheVariants as reference
-use Rattle.cc_meaning_program.specs.BodyFaults.{HaveSoundBodies}
 use Rattle.cc_meaning_program.specs.ClassNames.{AreClassNames}
 use Rattle.cc_meaning_program.specs.Instructions.{AreInstructions, StandToEnd, OneReading}
 use Rattle.cc_meaning_program.specs.Named.{type_name, method_text}
 use Rattle.cc_meaning_program.specs.References.{reference_of, IsFloating}
 use Rattle.cc_meaning_program.specs.TypeNames.{IsTypeOf, ListedTypesSpelled}
 use Rattle.cc_meaning_linking.specs.Links.{AreLinks}
-use Rattle.cc_meaning_linking.specs.Rows.{FitTables, FitClasses, IsTypeRow, CatchFits}
+use Rattle.cc_meaning_linking.specs.Rows.{FitTables, FitClasses, IsTypeRow}
 use Rattle.cc_meaning_linking.specs.Uses.{AreUses}
 use Rattle.cc_meaning_linking.specs.declared.links.Links.{Links}
-use Rattle.cc_meaning_linking.specs.declared.links.MethodLink.{MethodLink}
 use Rattle.cc_meaning_linking.specs.declared.uses.MethodUse.{MethodUse}
 use Rattle.cc_code.specs.Linkable.{HasLink, IsCodeOf, IsLinkable, SoundCodeIsLinkable}
 use Rattle.cc_code.proofs.Among.{contains_at, in_classes}

@@ -1,5 +1,5 @@
 -- What instructions name of members, and the uses that these are.
-use Rattle.std.proofs.Common.{◌≡◌, inl, inr, ℕ, List, [], ◌∷◌, Option, Some, None, refl, sym, ap, ◌∙◌, subst, arith}
+use Rattle.std.proofs.Common.{◌≡◌, inl, inr, ℕ, List, [], ◌∷◌, Some, refl, ap, subst, arith}
 use Rattle.std.specs.Prelude.{Contains}
 use Rattle.cc_meaning.specs.declared.instruction.Insn.{Insn}
 use Rattle.cc_meaning.specs.declared.instruction.Insn.TheVariants as insn

@@ -1,5 +1,5 @@
 -- The rows that instructions name are there.
-use Rattle.std.proofs.Common.{◌≡◌, ℕ, ◌<◌, ◌≤◌, List, length, Some, sym, ap, subst, arith}
+use Rattle.std.proofs.Common.{◌≡◌, ℕ, ◌<◌, ◌≤◌, List, length, Some, subst, arith}
 use Rattle.std.specs.Prelude.{Contains}
 use Rattle.cc_meaning.specs.declared.file.Ids.{Ids}
 use Rattle.cc_meaning.specs.declared.file.RawClass.{RawClass}
@@ -11,9 +11,8 @@ use Rattle.cc_meaning_program.specs.Instructions.{StandToEnd}
 use Rattle.cc_meaning_program.specs.Named.{method_text}
 use Rattle.cc_meaning_program.specs.References.{reference_of}
 use Rattle.cc_meaning_resolution.specs.Naming.{ClassesAre}
-use Rattle.cc_meaning_linking.specs.Uses.{AreUses}
 use Rattle.cc_meaning_linking.specs.declared.uses.MethodUse.{MethodUse}
-use Rattle.cc_code.specs.UsedRows.{UseRows, UsedRowsAreThere}
+use Rattle.cc_code.specs.UsedRows.{UsedRowsAreThere}
 use Rattle.cc_code.proofs.Among.{found_at, of_classes}
 use Rattle.cc_code.proofs.References.{method_of_use, field_of_use}
 use Rattle.cc_code.proofs.Soundness.{NamedIsSound, code_is_sound, named_is_sound}

@@ -1,5 +1,5 @@
 -- Code whose rows have links.
-use Rattle.std.specs.Prelude.{◌≡◌, ℕ, ◌<◌, List, length, slice_get, Option, Some, IfSome}
+use Rattle.std.specs.Prelude.{◌≡◌, ℕ, ◌<◌, List, length, slice_get, Some, IfSome}
 use Rattle.cc_meaning.specs.declared.file.Ids.{Ids}
 use Rattle.cc_meaning.specs.declared.file.RawCatch.{RawCatch}
 use Rattle.cc_meaning.specs.declared.file.RawClass.{RawClass}

@@ -1,7 +1,6 @@
 use Rattle.std.proofs.Common.{◌≡◌, Some, get_or, refl, sym, ◌∙◌, arith}
 use Rattle.std.specs.Prelude.{slice_get}
 use Rattle.std.proofs.lemmas.Option.{slice_get-get_or}
-use Rattle.cc_meaning.specs.declared.program.Placed.{Placed}
 use Rattle.cc_code.specs.Linked.{PlacedLinked}
 use Rattle.cc_code.proofs.Loops.{changed_none, changed_more, changed_all}
 use Rattle.cc_code.proofs.insns.link_insns.Goals as goal

@@ -1,7 +1,3 @@
-use Rattle.std.proofs.Common.{ap, sym, ◌∙◌, subst}
-use Rattle.std.specs.Prelude.{List, Option}
-use Rattle.cc_meaning.specs.declared.program.Placed.{Placed}
-use Rattle.cc_code.specs.declared.uses.MemberUses.{MemberUses}
 use Rattle.cc_code.specs.Gathering.{AddsUses, insns_of_body}
 use Rattle.cc_code.proofs.Gathering.{adds_none, adds_more}
 use Rattle.cc_code.proofs.uses.add_bodies.Goals as goal

@@ -1,4 +1,4 @@
-use Rattle.std.proofs.Common.{subst, sym}
+use Rattle.std.proofs.Common.{subst}
 use Rattle.std.proofs.lemmas.List.{take_all}
 use Rattle.cc_meaning.specs.declared.program.Placed.{Placed}
 use Rattle.std.specs.Prelude.{List}
