@@ -1,6 +1,6 @@
 //! Code with numbers of a program in place of rows.
 
-ghost use Rattle.std.specs.Prelude.{◌≡◌, ℕ, List, IfOk};
+ghost use Rattle.std.specs.Prelude.{List, IfOk};
 ghost use Rattle.cc_meaning.specs.declared.file.Ids.{Ids};
 ghost use Rattle.cc_meaning.specs.declared.file.RawClass.{RawClass};
 ghost use Rattle.cc_meaning.specs.declared.program.Program.{Program};

@@ -1,7 +1,6 @@
 //! What rows link to.
 
-ghost use Rattle.std.specs.Prelude.{◌≡◌, ◌<◌, length, slice_get, IfSome};
-ghost use Rattle.cc_meaning.specs.declared.program.DexType.{DexType};
+ghost use Rattle.std.specs.Prelude.{◌≡◌, slice_get, IfSome};
 ghost use Rattle.cc_code.specs.Linkable.{HasLink};
 ghost use Rattle.cc_code.specs.Linked.{TypeLinked, MethodLinked};
 ghost use Rattle.cc_meaning_program.specs.References.{named_type, named_method};
