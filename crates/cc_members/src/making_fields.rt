@@ -67,7 +67,7 @@ impl Sources<'_> {
     }
 
     /// `System.out`.
-    fn out(&self, alloc: Global, owner: ClassIx) -> Result<Field, AllocError>
+    fn out_field(&self, alloc: Global, owner: ClassIx) -> Result<Field, AllocError>
         requires few { length self.now.names.now < 2 ^ 32 }
         requires rise { IsRising self.now.names.now }
         requires typed { (ty : DexType) × Spells self.now.names.now ty print_stream_name }
@@ -97,7 +97,7 @@ impl Sources<'_> {
                 Some(raw) => self.field_of_row(alloc, plan.owner, raw.row, raw.is_static),
                 None => unreachable!(),
             },
-            FieldSource::Out => self.out(alloc, plan.owner),
+            FieldSource::Out => self.out_field(alloc, plan.owner),
             FieldSource::Outside { row } => self.field_of_row(alloc, plan.owner, row, true),
         }
     }
