@@ -1,0 +1,41 @@
+-- The classes above a built-in class.
+use Rattle.std.proofs.Common.{◌≡◌, ℕ, Bool, true, false, cond, ◌||◌, List, [], ◌∷◌, Option, Some, None, refl, sym, ap, subst, ◌∙◌}
+use Rattle.std.specs.List.{list_any, AllByRecursion}
+use Rattle.std.specs.Str.{bytes_eq}
+use Rattle.std.proofs.lemmas.Slice.Eq.{bytes_eq-Decides}
+use Rattle.cc_meaning.specs.declared.file.Ids.{Ids}
+use Rattle.cc_meaning.specs.declared.program.ClassKind.{ClassKind}
+use Rattle.cc_meaning.specs.declared.program.ClassKind.TheVariants.{File, BuiltIn, Outside, OutsideError, Array}
+use Rattle.cc_meaning.specs.BuiltIn.{BuiltInClass, built_in_classes, built_in_plain_classes, built_in_throwables, is_built_in, built_in_superclass, object_name, string_name, string_builder_name, system_name, print_stream_name, throwable_name, exception_name, error_name, runtime_exception_name, arithmetic_exception_name, null_pointer_exception_name, array_store_exception_name, class_cast_exception_name, index_out_of_bounds_exception_name, negative_array_size_exception_name, illegal_argument_exception_name, illegal_state_exception_name, array_index_out_of_bounds_exception_name, string_index_out_of_bounds_exception_name, linkage_error_name, virtual_machine_error_name, no_class_def_found_error_name, exception_in_initializer_error_name, incompatible_class_change_error_name, abstract_method_error_name, stack_overflow_error_name}
+use Rattle.cc_meaning_resolution.specs.Ancestry.{kind_of_class, superclass_by_kind, superclass_named, Ancestry, top, up}
+
+-- a class has the list of the classes above it
+abbrev pub HasAncestry : Ids → List ℕ → Type 0
+HasAncestry ids name = (ancestors : List (List ℕ)) × Ancestry ids name ancestors
+
+pub one_up : (ids : Ids) (name above : List ℕ) → superclass_named ids name ≡ Some above → HasAncestry ids above → HasAncestry ids name
+one_up ids name above is (rest, higher) = (name ∷ rest, up is higher)
+
+pub superclass_of_kind : (ids : Ids) (name : List ℕ) (kind : ClassKind) → kind_of_class ids name ≡ kind → superclass_named ids name ≡ superclass_by_kind ids name kind
+unfolding superclass_named
+superclass_of_kind ids name kind is = ap (superclass_by_kind ids name) is
+
+kind_of_built_in : (ids : Ids) (name : List ℕ) → is_built_in name ≡ true → kind_of_class ids name ≡ BuiltIn
+unfolding kind_of_class
+kind_of_built_in ids name is = ap (λ tested. cond tested BuiltIn _) is
+
+superclass_of_built_in : (ids : Ids) (name : List ℕ) → is_built_in name ≡ true → superclass_named ids name ≡ built_in_superclass name
+unfolding superclass_by_kind
+superclass_of_built_in ids name is = superclass_of_kind ids name BuiltIn (kind_of_built_in ids name is)
+
+-- a built-in class below one that has its list
+below_known : (ids : Ids) (above name : List ℕ) → is_built_in name ≡ true → built_in_superclass name ≡ Some above → HasAncestry ids above → HasAncestry ids name
+below_known ids above name is stated = one_up ids name above (superclass_of_built_in ids name is ∙ stated)
+
+of_object : (ids : Ids) → HasAncestry ids object_name
+unfolding built_in_classes built_in_plain_classes object_name
+of_object ids = (object_name ∷ [], top (superclass_of_built_in ids object_name refl ∙ refl))
+
+of_throwable : (ids : Ids) → HasAncestry ids throwable_name
+unfolding built_in_classes built_in_plain_classes built_in_throwables object_name string_name string_builder_name system_name print_stream_name throwable_name
+of_throwable ids = below_known ids object_name throwable_name refl refl (of_object ids)

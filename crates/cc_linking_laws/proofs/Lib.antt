@@ -1,0 +1,5 @@
+pub mod Upward
+pub mod Definitions
+pub mod Interfaces
+pub mod BuiltIn
+pub mod Ancestors
