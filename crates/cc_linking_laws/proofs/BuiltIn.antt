@@ -7,7 +7,8 @@ use Rattle.cc_meaning.specs.declared.file.Ids.{Ids}
 use Rattle.cc_meaning.specs.declared.program.ClassKind.{ClassKind}
 use Rattle.cc_meaning.specs.declared.program.ClassKind.TheVariants.{File, BuiltIn, Outside, OutsideError, Array}
 use Rattle.cc_meaning.specs.BuiltIn.{BuiltInClass, built_in_classes, built_in_plain_classes, built_in_throwables, is_built_in, built_in_superclass, object_name, string_name, string_builder_name, system_name, print_stream_name, throwable_name, exception_name, error_name, runtime_exception_name, arithmetic_exception_name, null_pointer_exception_name, array_store_exception_name, class_cast_exception_name, index_out_of_bounds_exception_name, negative_array_size_exception_name, illegal_argument_exception_name, illegal_state_exception_name, array_index_out_of_bounds_exception_name, string_index_out_of_bounds_exception_name, linkage_error_name, virtual_machine_error_name, no_class_def_found_error_name, exception_in_initializer_error_name, incompatible_class_change_error_name, abstract_method_error_name, stack_overflow_error_name}
-use Rattle.cc_meaning_resolution.specs.Ancestry.{kind_of_class, superclass_by_kind, superclass_named, Ancestry, top, up}
+use Rattle.cc_meaning_file.specs.Descriptors.{begins_with}
+use Rattle.cc_meaning_resolution.specs.Ancestry.{is_defined, outside_kind, kind_of_class, superclass_by_kind, superclass_named, Ancestry, top, up}
 
 -- a class has the list of the classes above it
 abbrev pub HasAncestry : Ids → List ℕ → Type 0
@@ -22,7 +23,7 @@ superclass_of_kind ids name kind is = ap (superclass_by_kind ids name) is
 
 kind_of_built_in : (ids : Ids) (name : List ℕ) → is_built_in name ≡ true → kind_of_class ids name ≡ BuiltIn
 unfolding kind_of_class
-kind_of_built_in ids name is = ap (λ tested. cond tested BuiltIn _) is
+kind_of_built_in ids name is = ap (λ tested. cond tested BuiltIn (cond (is_defined ids name) File (cond (begins_with 91 name) Array (outside_kind name)))) is
 
 superclass_of_built_in : (ids : Ids) (name : List ℕ) → is_built_in name ≡ true → superclass_named ids name ≡ built_in_superclass name
 unfolding superclass_by_kind
@@ -32,10 +33,136 @@ superclass_of_built_in ids name is = superclass_of_kind ids name BuiltIn (kind_o
 below_known : (ids : Ids) (above name : List ℕ) → is_built_in name ≡ true → built_in_superclass name ≡ Some above → HasAncestry ids above → HasAncestry ids name
 below_known ids above name is stated = one_up ids name above (superclass_of_built_in ids name is ∙ stated)
 
-of_object : (ids : Ids) → HasAncestry ids object_name
-unfolding built_in_classes built_in_plain_classes object_name
+pub of_object : (ids : Ids) → HasAncestry ids object_name
+unfolding built_in_classes built_in_plain_classes built_in_throwables object_name string_name string_builder_name system_name print_stream_name throwable_name exception_name error_name runtime_exception_name arithmetic_exception_name null_pointer_exception_name array_store_exception_name class_cast_exception_name index_out_of_bounds_exception_name negative_array_size_exception_name illegal_argument_exception_name illegal_state_exception_name array_index_out_of_bounds_exception_name string_index_out_of_bounds_exception_name linkage_error_name virtual_machine_error_name no_class_def_found_error_name exception_in_initializer_error_name incompatible_class_change_error_name abstract_method_error_name stack_overflow_error_name
 of_object ids = (object_name ∷ [], top (superclass_of_built_in ids object_name refl ∙ refl))
 
 of_throwable : (ids : Ids) → HasAncestry ids throwable_name
-unfolding built_in_classes built_in_plain_classes built_in_throwables object_name string_name string_builder_name system_name print_stream_name throwable_name
+unfolding built_in_classes built_in_plain_classes built_in_throwables object_name string_name string_builder_name system_name print_stream_name throwable_name exception_name error_name runtime_exception_name arithmetic_exception_name null_pointer_exception_name array_store_exception_name class_cast_exception_name index_out_of_bounds_exception_name negative_array_size_exception_name illegal_argument_exception_name illegal_state_exception_name array_index_out_of_bounds_exception_name string_index_out_of_bounds_exception_name linkage_error_name virtual_machine_error_name no_class_def_found_error_name exception_in_initializer_error_name incompatible_class_change_error_name abstract_method_error_name stack_overflow_error_name
 of_throwable ids = below_known ids object_name throwable_name refl refl (of_object ids)
+
+pub of_exception : (ids : Ids) → HasAncestry ids exception_name
+unfolding built_in_classes built_in_plain_classes built_in_throwables object_name string_name string_builder_name system_name print_stream_name throwable_name exception_name error_name runtime_exception_name arithmetic_exception_name null_pointer_exception_name array_store_exception_name class_cast_exception_name index_out_of_bounds_exception_name negative_array_size_exception_name illegal_argument_exception_name illegal_state_exception_name array_index_out_of_bounds_exception_name string_index_out_of_bounds_exception_name linkage_error_name virtual_machine_error_name no_class_def_found_error_name exception_in_initializer_error_name incompatible_class_change_error_name abstract_method_error_name stack_overflow_error_name
+of_exception ids = below_known ids throwable_name exception_name refl refl (of_throwable ids)
+
+pub of_error : (ids : Ids) → HasAncestry ids error_name
+unfolding built_in_classes built_in_plain_classes built_in_throwables object_name string_name string_builder_name system_name print_stream_name throwable_name exception_name error_name runtime_exception_name arithmetic_exception_name null_pointer_exception_name array_store_exception_name class_cast_exception_name index_out_of_bounds_exception_name negative_array_size_exception_name illegal_argument_exception_name illegal_state_exception_name array_index_out_of_bounds_exception_name string_index_out_of_bounds_exception_name linkage_error_name virtual_machine_error_name no_class_def_found_error_name exception_in_initializer_error_name incompatible_class_change_error_name abstract_method_error_name stack_overflow_error_name
+of_error ids = below_known ids throwable_name error_name refl refl (of_throwable ids)
+
+of_runtime_exception : (ids : Ids) → HasAncestry ids runtime_exception_name
+unfolding built_in_classes built_in_plain_classes built_in_throwables object_name string_name string_builder_name system_name print_stream_name throwable_name exception_name error_name runtime_exception_name arithmetic_exception_name null_pointer_exception_name array_store_exception_name class_cast_exception_name index_out_of_bounds_exception_name negative_array_size_exception_name illegal_argument_exception_name illegal_state_exception_name array_index_out_of_bounds_exception_name string_index_out_of_bounds_exception_name linkage_error_name virtual_machine_error_name no_class_def_found_error_name exception_in_initializer_error_name incompatible_class_change_error_name abstract_method_error_name stack_overflow_error_name
+of_runtime_exception ids = below_known ids exception_name runtime_exception_name refl refl (of_exception ids)
+
+of_index_out_of_bounds_exception : (ids : Ids) → HasAncestry ids index_out_of_bounds_exception_name
+unfolding built_in_classes built_in_plain_classes built_in_throwables object_name string_name string_builder_name system_name print_stream_name throwable_name exception_name error_name runtime_exception_name arithmetic_exception_name null_pointer_exception_name array_store_exception_name class_cast_exception_name index_out_of_bounds_exception_name negative_array_size_exception_name illegal_argument_exception_name illegal_state_exception_name array_index_out_of_bounds_exception_name string_index_out_of_bounds_exception_name linkage_error_name virtual_machine_error_name no_class_def_found_error_name exception_in_initializer_error_name incompatible_class_change_error_name abstract_method_error_name stack_overflow_error_name
+of_index_out_of_bounds_exception ids = below_known ids runtime_exception_name index_out_of_bounds_exception_name refl refl (of_runtime_exception ids)
+
+of_linkage_error : (ids : Ids) → HasAncestry ids linkage_error_name
+unfolding built_in_classes built_in_plain_classes built_in_throwables object_name string_name string_builder_name system_name print_stream_name throwable_name exception_name error_name runtime_exception_name arithmetic_exception_name null_pointer_exception_name array_store_exception_name class_cast_exception_name index_out_of_bounds_exception_name negative_array_size_exception_name illegal_argument_exception_name illegal_state_exception_name array_index_out_of_bounds_exception_name string_index_out_of_bounds_exception_name linkage_error_name virtual_machine_error_name no_class_def_found_error_name exception_in_initializer_error_name incompatible_class_change_error_name abstract_method_error_name stack_overflow_error_name
+of_linkage_error ids = below_known ids error_name linkage_error_name refl refl (of_error ids)
+
+of_virtual_machine_error : (ids : Ids) → HasAncestry ids virtual_machine_error_name
+unfolding built_in_classes built_in_plain_classes built_in_throwables object_name string_name string_builder_name system_name print_stream_name throwable_name exception_name error_name runtime_exception_name arithmetic_exception_name null_pointer_exception_name array_store_exception_name class_cast_exception_name index_out_of_bounds_exception_name negative_array_size_exception_name illegal_argument_exception_name illegal_state_exception_name array_index_out_of_bounds_exception_name string_index_out_of_bounds_exception_name linkage_error_name virtual_machine_error_name no_class_def_found_error_name exception_in_initializer_error_name incompatible_class_change_error_name abstract_method_error_name stack_overflow_error_name
+of_virtual_machine_error ids = below_known ids error_name virtual_machine_error_name refl refl (of_error ids)
+
+of_incompatible_class_change_error : (ids : Ids) → HasAncestry ids incompatible_class_change_error_name
+unfolding built_in_classes built_in_plain_classes built_in_throwables object_name string_name string_builder_name system_name print_stream_name throwable_name exception_name error_name runtime_exception_name arithmetic_exception_name null_pointer_exception_name array_store_exception_name class_cast_exception_name index_out_of_bounds_exception_name negative_array_size_exception_name illegal_argument_exception_name illegal_state_exception_name array_index_out_of_bounds_exception_name string_index_out_of_bounds_exception_name linkage_error_name virtual_machine_error_name no_class_def_found_error_name exception_in_initializer_error_name incompatible_class_change_error_name abstract_method_error_name stack_overflow_error_name
+of_incompatible_class_change_error ids = below_known ids linkage_error_name incompatible_class_change_error_name refl refl (of_linkage_error ids)
+
+-- each class of these has the list of those above it
+abbrev HaveAncestries : Ids → List BuiltInClass → Type 0
+HaveAncestries ids classes = AllByRecursion (λ (class : BuiltInClass). HasAncestry ids class.name) classes
+
+all_built_in : (ids : Ids) → HaveAncestries ids built_in_classes
+unfolding built_in_classes built_in_plain_classes built_in_throwables object_name string_name string_builder_name system_name print_stream_name throwable_name exception_name error_name runtime_exception_name arithmetic_exception_name null_pointer_exception_name array_store_exception_name class_cast_exception_name index_out_of_bounds_exception_name negative_array_size_exception_name illegal_argument_exception_name illegal_state_exception_name array_index_out_of_bounds_exception_name string_index_out_of_bounds_exception_name linkage_error_name virtual_machine_error_name no_class_def_found_error_name exception_in_initializer_error_name incompatible_class_change_error_name abstract_method_error_name stack_overflow_error_name
+all_built_in ids = (
+  of_object ids,
+  (
+    below_known ids object_name string_name refl refl (of_object ids),
+    (
+      below_known ids object_name string_builder_name refl refl (of_object ids),
+      (
+        below_known ids object_name system_name refl refl (of_object ids),
+        (
+          below_known ids object_name print_stream_name refl refl (of_object ids),
+          (
+            of_throwable ids,
+            (
+              of_exception ids,
+              (
+                of_error ids,
+                (
+                  of_runtime_exception ids,
+                  (
+                    below_known ids runtime_exception_name arithmetic_exception_name refl refl (of_runtime_exception ids),
+                    (
+                      below_known ids runtime_exception_name null_pointer_exception_name refl refl (of_runtime_exception ids),
+                      (
+                        below_known ids runtime_exception_name array_store_exception_name refl refl (of_runtime_exception ids),
+                        (
+                          below_known ids runtime_exception_name class_cast_exception_name refl refl (of_runtime_exception ids),
+                          (
+                            of_index_out_of_bounds_exception ids,
+                            (
+                              below_known ids runtime_exception_name negative_array_size_exception_name refl refl (of_runtime_exception ids),
+                              (
+                                below_known ids runtime_exception_name illegal_argument_exception_name refl refl (of_runtime_exception ids),
+                                (
+                                  below_known ids runtime_exception_name illegal_state_exception_name refl refl (of_runtime_exception ids),
+                                  (
+                                    below_known ids index_out_of_bounds_exception_name array_index_out_of_bounds_exception_name refl refl (of_index_out_of_bounds_exception ids),
+                                    (
+                                      below_known ids index_out_of_bounds_exception_name string_index_out_of_bounds_exception_name refl refl (of_index_out_of_bounds_exception ids),
+                                      (
+                                        of_linkage_error ids,
+                                        (
+                                          of_virtual_machine_error ids,
+                                          (
+                                            below_known ids linkage_error_name no_class_def_found_error_name refl refl (of_linkage_error ids),
+                                            (
+                                              below_known ids linkage_error_name exception_in_initializer_error_name refl refl (of_linkage_error ids),
+                                              (
+                                                of_incompatible_class_change_error ids,
+                                                (
+                                                  below_known ids incompatible_class_change_error_name abstract_method_error_name refl refl (of_incompatible_class_change_error ids),
+                                                  (
+                                                    below_known ids virtual_machine_error_name stack_overflow_error_name refl refl (of_virtual_machine_error ids),
+                                                    tt,
+                                                  ),
+                                                ),
+                                              ),
+                                            ),
+                                          ),
+                                        ),
+                                      ),
+                                    ),
+                                  ),
+                                ),
+                              ),
+                            ),
+                          ),
+                        ),
+                      ),
+                    ),
+                  ),
+                ),
+              ),
+            ),
+          ),
+        ),
+      ),
+    ),
+  ),
+)
+
+one_of_all : (ids : Ids) (name : List ℕ) (classes : List BuiltInClass) → HaveAncestries ids classes → list_any (λ (class : BuiltInClass). bytes_eq class.name name) classes ≡ true → HasAncestry ids name
+one_of_all ids name [] all is = absurd cc
+one_of_all ids name (class ∷ classes) (here, behind) is = from (bytes_eq class.name name) refl is (λ rest. one_of_all ids name classes behind rest)
+  where
+    from : (same : Bool) → bytes_eq class.name name ≡ same → (same || list_any (λ (other : BuiltInClass). bytes_eq other.name name) classes) ≡ true →
+        (list_any (λ (other : BuiltInClass). bytes_eq other.name name) classes ≡ true → HasAncestry ids name) → HasAncestry ids name
+    from true same any rest = subst (HasAncestry ids) ((bytes_eq-Decides class.name name).0 same) here
+    from false apart any rest = rest any
+
+pub of_built_in : (ids : Ids) (name : List ℕ) → is_built_in name ≡ true → HasAncestry ids name
+of_built_in ids name is = one_of_all ids name built_in_classes (all_built_in ids) is

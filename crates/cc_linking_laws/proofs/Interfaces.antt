@@ -38,10 +38,10 @@ of_types : (ids : Ids) (types : List ℕ) → ((type number : ℕ) → Contains 
 of_types ids [] each = ([], none)
 of_types ids (type ∷ types) each =
     one_more ids (type_name ids type) (map (type_name ids) types)
-      (of_first ids (type_name ids type) (λ stated is.
-        let d = defined ids (type_name ids type) stated is in
-        each type d.number (0, omega arith, refl) d.defines stated d.there))
-      (of_types ids types (λ other number (k, within, is). each other number (suc k, omega (arith, within), is)))
+    (of_first ids (type_name ids type) (λ stated is.
+    let d = defined ids (type_name ids type) stated is in
+    each type d.number (0, omega arith, refl) d.defines stated d.there))
+    (of_types ids types (λ other number (k, within, is). each other number (suc k, omega (arith, within), is)))
 
 passes : (ids : Ids) → Passes ids (HasList ids)
 passes ids number above stated there =
@@ -51,10 +51,10 @@ of_names : (ids : Ids) (classes : List RawClass) → AreSound ids classes → (n
 of_names ids classes sound [] = ([], none)
 of_names ids classes sound (name ∷ names) =
     one_more ids name names
-      (of_first ids name (λ stated is.
-        let d = defined ids name stated is in
-        upward ids classes sound (HasList ids) (passes ids) d.number d.within stated d.there))
-      (of_names ids classes sound names)
+    (of_first ids name (λ stated is.
+    let d = defined ids name stated is in
+    upward ids classes sound (HasList ids) (passes ids) d.number d.within stated d.there))
+    (of_names ids classes sound names)
 
 pub interfaces_have_lists : InterfacesHaveLists
 interfaces_have_lists = of_names

@@ -90,8 +90,8 @@ climb ids classes sound holds passes zero all long number has = absurd (none_amo
 climb ids classes sound holds passes (suc n) all long number has =
     let (rest, longer, kept) = without all number (has number (inl refl)) in
     passes number (λ above step. climb ids classes sound holds passes n rest (omega (arith, long, longer)) above (λ top is.
-        kept top (λ same. sound.ordered number (subst (λ t. IsAbove ids number t) same (above_too ids number above top step is)))
-            (has top (inr (above_too ids number above top step is)))))
+    kept top (λ same. sound.ordered number (subst (λ t. IsAbove ids number t) same (above_too ids number above top step is)))
+    (has top (inr (above_too ids number above top step is)))))
 
 pub upward : (ids : Ids) (classes : List RawClass) → AreSound ids classes → (holds : ℕ → Type 0) → Passes ids holds → (number : ℕ) → number < length ids.classes → holds number
 upward ids classes sound holds passes number within =
