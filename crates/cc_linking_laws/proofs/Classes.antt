@@ -21,7 +21,7 @@ use Rattle.cc_meaning_classes.specs.declared.items.StatedMethod.{StatedMethod}
 use Rattle.cc_meaning_classes.specs.declared.items.ValueKind.{ValueKind}
 use Rattle.cc_meaning_classes.specs.declared.items.ValueKind.TheVariants.{Boolean, Byte, Short, Char, Int, Long, Text, Reference}
 use Rattle.cc_meaning_classes.specs.Classes.{EachPair, SpellsClass, SpellsClasses, SpellsSoundMethod}
-use Rattle.cc_meaning_classes.specs.CodeItems.{HasSoundCode, has_flag, has_no_code}
+use Rattle.cc_meaning_classes.specs.CodeItems.{unit_count, handlers_at, HasSoundCode, has_flag, has_no_code}
 use Rattle.cc_meaning_classes.specs.Members.{SpellsMembers, FieldStands, MethodStands}
 use Rattle.cc_meaning_classes.specs.Rows.{IsFieldOf, IsMethodOf}
 use Rattle.cc_meaning_classes.specs.Sequences.{Follow}
@@ -62,8 +62,8 @@ as_many holds (x ∷ xs) (y ∷ ys) (here, behind) = ap suc (as_many holds xs ys
 
 pair_at : {A B : Type 0} (holds : A → B → Type 0) (xs : List A) (ys : List B) → EachPair holds xs ys → (place : ℕ) (x : A) (y : B) → slice_get xs place ≡ Some x → slice_get ys place ≡ Some y → holds x y
 pair_at holds [] [] pairs place x y a b = absurd cc
-pair_at holds [] (y ∷ ys) pairs place a b = absurd pairs
-pair_at holds (x ∷ xs) [] pairs place a b = absurd pairs
+pair_at holds [] (y ∷ ys) pairs place a b is_a is_b = absurd pairs
+pair_at holds (x ∷ xs) [] pairs place a b is_a is_b = absurd pairs
 pair_at holds (x ∷ xs) (y ∷ ys) (here, behind) zero a b is_a is_b =
     let e : x ≡ a = cc in
     let f : y ≡ b = cc in
@@ -74,8 +74,8 @@ pair_at holds (x ∷ xs) (y ∷ ys) (here, behind) (suc place) a b is_a is_b = p
 of_seconds : {A B : Type 0} (pair : A → B → Type 0) (holds : B → Type 0) (xs : List A) (ys : List B) → EachPair pair xs ys → ((x : A) (y : B) → Contains xs x → pair x y → holds y) →
     (y : B) → Contains ys y → holds y
 of_seconds pair holds [] [] pairs each y named = absurd (none_in y named)
-of_seconds pair holds [] (y ∷ ys) pairs each = absurd pairs
-of_seconds pair holds (x ∷ xs) [] pairs each = absurd pairs
+of_seconds pair holds [] (y ∷ ys) pairs each other named = absurd pairs
+of_seconds pair holds (x ∷ xs) [] pairs each other named = absurd pairs
 of_seconds pair holds (x ∷ xs) (y ∷ ys) (here, behind) each other (zero, within, is) = subst holds is (each x y (0, omega arith, refl) here)
 of_seconds pair holds (x ∷ xs) (y ∷ ys) (here, behind) each other (suc place, within, is) =
     of_seconds pair holds xs ys behind (λ a b (k, inside, same) both. each a b (suc k, omega (arith, inside), same) both) other (place, omega (arith, within), is)
@@ -118,19 +118,19 @@ handler_at items place handler is = (place, slice_get_within items place handler
 
 spelled_tries_fit : (file : List ℕ) (ids : Ids) (at : ℕ) (tries : List RawTry) → SpellsTries file ids at tries → TriesFit ids tries
 spelled_tries_fit file ids at tries spelled try catch named caught =
-    of_each (TryStands file _ _ spelled.handlers) (λ (one : RawTry). (other : RawCatch) → Contains one.catches other → CatchFits ids other) of_try tries _ spelled.listed.end spelled.listed.each try named catch caught
+    of_each (TryStands file (unit_count file at) (handlers_at file at) spelled.handlers) (λ (one : RawTry). (other : RawCatch) → Contains one.catches other → CatchFits ids other) of_try tries _ spelled.listed.end spelled.listed.each try named catch caught
   where
     of_handlers : (handler : Handler) → Contains spelled.handlers handler → HandlerFits ids handler
     of_handlers = of_each (HandlerStands file ids) (HandlerFits ids) (handler_fits file ids) spelled.handlers _ spelled.spelled.listed.end spelled.spelled.listed.each
 
-    of_try : (from : Cursor) (one : RawTry) (next : Cursor) → TryStands file _ _ spelled.handlers from one next → (other : RawCatch) → Contains one.catches other → CatchFits ids other
+    of_try : (from : Cursor) (one : RawTry) (next : Cursor) → TryStands file (unit_count file at) (handlers_at file at) spelled.handlers from one next → (other : RawCatch) → Contains one.catches other → CatchFits ids other
     of_try from one next stands other is =
         of_handlers stands.handler.handler (handler_at spelled.handlers stands.handler.place stands.handler.handler stands.handler.there) other
           (subst (λ catches. Contains catches other) (sym stands.handler.caught) is)
 
 tries_fit : (file : List ℕ) (ids : Ids) (at : ℕ) (tries : List RawTry) → HasTries file ids at tries → TriesFit ids tries
 tries_fit file ids at tries (inl (none, same)) try catch named caught = absurd (none_in try (subst (λ all. Contains all try) same named))
-tries_fit file ids at tries (inr (some, spelled)) = spelled_tries_fit file ids at tries spelled
+tries_fit file ids at tries (inr (some, spelled)) try catch named caught = spelled_tries_fit file ids at tries spelled try catch named caught
 
 -- ---- members
 
@@ -175,13 +175,13 @@ members_of file ids stated members (inl (none, same)) = (
   of_none (λ (field : RawField). IsFieldOf ids stated.class field.row) members.fields (ap (λ (all : Members). all.fields) same),
   of_none (λ (method : StatedMethod). IsMethodOf ids stated.class method.row) members.methods (ap (λ (all : Members). all.methods) same)
 )
-members_of file ids stated members (inr (some, data)) = (
-  of_both (λ (field : RawField). IsFieldOf ids stated.class field.row) members.fields data.static_fields data.instance_fields data.fields
-    (of_each (FieldStands file ids stated.class true) _ (field_of file ids stated.class true) data.static_fields _ data.static_list.end data.static_list.each)
-    (of_each (FieldStands file ids stated.class false) _ (field_of file ids stated.class false) data.instance_fields _ data.instance_list.end data.instance_list.each),
-  of_both (λ (method : StatedMethod). IsMethodOf ids stated.class method.row) members.methods data.direct_methods data.virtual_methods data.methods
-    (of_each (MethodStands file ids stated.class true) _ (method_of file ids stated.class true) data.direct_methods _ data.direct_list.end data.direct_list.each)
-    (of_each (MethodStands file ids stated.class false) _ (method_of file ids stated.class false) data.virtual_methods _ data.virtual_list.end data.virtual_list.each)
+members_of file ids stated members (inr (some, listed)) = (
+  of_both (λ (field : RawField). IsFieldOf ids stated.class field.row) members.fields listed.static_fields listed.instance_fields listed.fields
+    (of_each (FieldStands file ids stated.class true) _ (field_of file ids stated.class true) listed.static_fields _ listed.static_list.end listed.static_list.each)
+    (of_each (FieldStands file ids stated.class false) _ (field_of file ids stated.class false) listed.instance_fields _ listed.instance_list.end listed.instance_list.each),
+  of_both (λ (method : StatedMethod). IsMethodOf ids stated.class method.row) members.methods listed.direct_methods listed.virtual_methods listed.methods
+    (of_each (MethodStands file ids stated.class true) _ (method_of file ids stated.class true) listed.direct_methods _ listed.direct_list.end listed.direct_list.each)
+    (of_each (MethodStands file ids stated.class false) _ (method_of file ids stated.class false) listed.virtual_methods _ listed.virtual_list.end listed.virtual_list.each)
 )
 
 -- ---- values
