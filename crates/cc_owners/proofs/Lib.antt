@@ -1,0 +1,10 @@
+pub mod Lists
+pub mod Above
+pub mod Positions
+pub mod Indexing
+pub mod Placing
+pub mod Climbing
+pub mod Searching
+pub mod Listings
+pub mod Reversing
+pub mod Inheriting

@@ -1,0 +1,33 @@
+-- The place of a member in a class of a number.
+use Rattle.std.proofs.Common.{◌≡◌, ℕ, Option, Some, None, true, false, List, slice_get, option_and_then, refl, sym, ap, subst, ◌∙◌}
+use Rattle.std.specs.Prelude.{is_some}
+use Rattle.cc_meaning.specs.declared.file.RawClass.{RawClass}
+use Rattle.cc_meaning_resolution.specs.Declared.{members_of}
+use Rattle.cc_meaning_linking.specs.declared.outline.Outline.{Outline}
+use Rattle.cc_meaning_linking.specs.Outlines.{definition_number}
+use Rattle.cc_owners.specs.declared.linked.Linked.{Linked}
+use Rattle.cc_owners.specs.Known.{IsKnown, Has}
+use Rattle.cc_owners.specs.Members.{member_of}
+use Rattle.cc_owners.specs.Places.{place_among, place_of}
+
+module _ (linked : Linked) (known : IsKnown linked) (class : ℕ) (name : List ℕ) (outline : Outline) (named : slice_get linked.names.now class ≡ Some name) (there : slice_get linked.outlines.now class ≡ Some outline) where
+  members_are : members_of linked.ids.now linked.classes.now name ≡ option_and_then (slice_get linked.classes.now) outline.definition
+  unfolding members_of definition_number
+  members_are = ap (option_and_then (slice_get linked.classes.now)) (sym (known.outlines.each class name outline named there).definition)
+
+  pub place_there : (row definition : ℕ) (place : Option ℕ) → outline.definition ≡ Some definition →
+      place ≡ place_among linked.ids.now linked.table (member_of linked.ids.now linked.table row) (slice_get linked.classes.now definition) →
+      place ≡ place_of linked.ids.now linked.classes.now linked.table name (member_of linked.ids.now linked.table row)
+  unfolding place_of
+  place_there row definition place is found =
+      found ∙ sym (ap (place_among linked.ids.now linked.table (member_of linked.ids.now linked.table row)) (members_are ∙ ap (option_and_then (slice_get linked.classes.now)) is))
+
+  pub place_nowhere : (row : ℕ) → outline.definition ≡ None → None ≡ place_of linked.ids.now linked.classes.now linked.table name (member_of linked.ids.now linked.table row)
+  unfolding place_of place_among
+  place_nowhere row is = sym (ap (place_among linked.ids.now linked.table (member_of linked.ids.now linked.table row)) (members_are ∙ ap (option_and_then (slice_get linked.classes.now)) is))
+
+pub has : (linked : Linked) (row place : ℕ) (name : List ℕ) → Some place ≡ place_of linked.ids.now linked.classes.now linked.table name (member_of linked.ids.now linked.table row) → Has linked row name
+has linked row place name e = subst (λ found. is_some found ≡ true) e refl
+
+pub has_not : (linked : Linked) (row : ℕ) (name : List ℕ) → None ≡ place_of linked.ids.now linked.classes.now linked.table name (member_of linked.ids.now linked.table row) → ¬ Has linked row name
+has_not linked row name e held = let no : false ≡ true = subst (λ found. is_some found ≡ true) (sym e) held in cc
