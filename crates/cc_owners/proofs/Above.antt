@@ -1,5 +1,5 @@
 -- Interfaces, each followed by those above it.
-use Rattle.std.proofs.Common.{◌≡◌, ◌⊎◌, inl, inr, ℕ, suc, ◌+◌, List, [], ◌∷◌, ◌++◌, length, Some, refl, sym, ap, subst, ◌∙◌, arith}
+use Rattle.std.proofs.Common.{◌≡◌, ◌⊎◌, inl, inr, ℕ, suc, ◌+◌, List, [], ◌∷◌, ◌++◌, length, refl, sym, ap, subst, ◌∙◌, arith}
 use Rattle.cc_meaning.specs.declared.file.Ids.{Ids}
 use Rattle.cc_meaning_resolution.specs.Ancestry.{interfaces_named, Superinterfaces, none, next}
 use Rattle.cc_meaning_resolution.specs.Searches.{NoneOf}

@@ -1,17 +1,18 @@
 -- Going up superclasses by their numbers.
-use Rattle.std.proofs.Common.{◌≡◌, ◌⊎◌, inl, inr, ℕ, suc, ◌+◌, ◌<◌, ◌≤◌, Bool, true, false, ◌||◌, eqb, List, [], ◌∷◌, ◌++◌, length, get_or, map, Option, Some, None, slice_get, refl, sym, ap, subst, ◌∙◌, arith}
+use Rattle.std.proofs.Common.{◌≡◌, ℕ, suc, ◌+◌, ◌<◌, ◌≤◌, Bool, true, false, ◌||◌, eqb, List, [], ◌∷◌, ◌++◌, length, get_or, map, Option, Some, None, slice_get, refl, sym, ap, subst, ◌∙◌, arith}
 use Rattle.std.specs.List.{IsDistinct, AllByRecursion, list_any}
 use Rattle.std.proofs.lemmas.Bool.Decides.{Decides-eqb}
 use Rattle.std.proofs.lemmas.Map.Steps.{length-le_from_distinct_below}
 use Rattle.std.proofs.lemmas.Option.{slice_get-get_or, slice_get_within}
 use Rattle.cc_meaning.specs.declared.file.Ids.{Ids}
+use Rattle.cc_meaning_program.specs.Named.{type_name}
 use Rattle.cc_meaning_resolution.specs.Ancestry.{superclass_named, Ancestry, top, up}
 use Rattle.cc_meaning_linking.specs.declared.outline.Outline.{Outline}
 use Rattle.cc_meaning_linking.specs.Climbing.{ClassesHaveAncestries}
 use Rattle.cc_meaning_linking.specs.Outlines.{IsNumberOf, AreNumbersOf}
 use Rattle.cc_owners.specs.declared.linked.Linked.{Linked}
 use Rattle.cc_owners.specs.Known.{IsKnown, AreAncestors}
-use Rattle.cc_owners.proofs.Lists.{Among, first, later, some_is, Parted, parted, together, ends_empty, length_both, numbers_both}
+use Rattle.cc_owners.proofs.Lists.{Among, first, later, some_is, parted, together, length_both, numbers_both}
 
 -- ---- no class is above itself
 
@@ -172,3 +173,9 @@ climbs_all linked start chain next is climbs = record {
   ancestry = subst (Left linked climbs.name climbs.done) is climbs.left;
   numbers = climbs.numbers;
 }
+
+-- what a class of a row's type has above it
+pub named_there : (linked : Linked) (class : ℕ) (chain : List ℕ) (type stated : ℕ) → stated ≡ type → slice_get linked.names.now class ≡ Some (type_name linked.ids.now type) → (a : AreAncestors linked class chain) →
+    Ancestry linked.ids.now (type_name linked.ids.now stated) a.above
+named_there linked class chain type stated same there a =
+    subst (λ name. Ancestry linked.ids.now name a.above) (some_is a.name (type_name linked.ids.now stated) (sym a.there ∙ (there ∙ ap (λ t. Some (type_name linked.ids.now t)) (sym same)))) a.ancestry

@@ -19,7 +19,6 @@ use Rattle.cc_meaning.specs.declared.file.Ids.{Ids}
 use Rattle.cc_meaning.specs.declared.file.RawClass.{RawClass}
 use Rattle.cc_meaning.specs.declared.file.RawField.{RawField}
 use Rattle.cc_meaning.specs.declared.file.RawMethod.{RawMethod}
-use Rattle.cc_meaning.specs.Order.{IsRising}
 use Rattle.cc_meaning_program.specs.ClassFaults.{AreSound, Repeats, of_field, of_method}
 use Rattle.cc_meaning_program.specs.Named.{field_member, method_member}
 use Rattle.cc_names.specs.InOrder.{AreInOrder}
@@ -28,7 +27,7 @@ use Rattle.cc_owners.specs.declared.members.MemberTable.{MemberTable}
 use Rattle.cc_owners.specs.declared.members.MemberTable.TheVariants.{Fields, Methods}
 use Rattle.cc_owners.specs.Members.{member_of}
 use Rattle.cc_owners.specs.Places.{rows_of, place_among}
-use Rattle.cc_owners.specs.Index.{entry_at, entry_name, AreAdded, IsEntry, AreGathered, AreEntries}
+use Rattle.cc_owners.specs.Index.{entry_at, entry_name, AreAdded, AreGathered, AreEntries}
 use Rattle.cc_owners.proofs.Lists.{some_is}
 use Rattle.cc_owners.proofs.Positions.{position_is, position_none}
 
@@ -47,9 +46,9 @@ added_more definition at row rows before all after here so_far is = subst (AreAd
   kept = λ entry held. Contains-append_left all (entry_at definition at row ∷ []) entry (so_far.kept entry held);
   added = λ place other below there. added place other there (cases_lt place at) below;
   no_more = λ entry held. elim (Contains-push_cases all (entry_at definition at row) entry held) [
-      | inl old ↦ so_far.no_more entry old
-      | inr new ↦ inr (subst (λ (e : Entry). (e.definition ≡ definition) × (slice_get rows e.place ≡ Some e.row)) new (refl, here))
-    ];
+    | inl old ↦ so_far.no_more entry old
+    | inr new ↦ inr (subst (λ (e : Entry). (e.definition ≡ definition) × (slice_get rows e.place ≡ Some e.row)) new (refl, here))
+  ];
 })
   where
     added : (place other : ℕ) → slice_get rows place ≡ Some other → (place < at) ⊎ (at ≤ place) → place < at + 1 → Contains (all ++ entry_at definition at row ∷ []) (entry_at definition place other)
@@ -71,9 +70,9 @@ pub gathered_more : (classes : List RawClass) (table : MemberTable) (at : ℕ) (
     AreAdded at (length (rows_of table class)) (rows_of table class) before after → AreGathered classes table (at + 1) after
 gathered_more classes table at class before after here so_far more = record {
   among = λ entry held. elim (more.no_more entry held) [
-      | inl old ↦ so_far.among entry old
-      | inr (same, stands) ↦ record { class = class; there = ap (slice_get classes) same ∙ here; stands = stands }
-    ];
+    | inl old ↦ so_far.among entry old
+    | inr (same, stands) ↦ record { class = class; there = ap (slice_get classes) same ∙ here; stands = stands }
+  ];
   all = λ definition place row other below there stands. all definition place row other there stands (cases_lt definition at) below;
 }
   where
@@ -184,7 +183,7 @@ module _ (ids : Ids) (classes : List RawClass) (table : MemberTable) (entries : 
       from : (read : Option RawClass) → slice_get classes definition ≡ read → None ≡ place_among ids table (member_of ids table row) read
       from None e = refl
       from (Some class) e = sym (position_none passes (rows_of table class) (λ j other stands. apart_fails (member_of ids table other) (member_of ids table row)
-        (λ same. not_held (subst (λ m. Contains (map (entry_name ids table) entries) (definition ∷ m)) same (are.all definition j other class e stands)))))
+          (λ same. not_held (subst (λ m. Contains (map (entry_name ids table) entries) (definition ∷ m)) same (are.all definition j other class e stands)))))
 
 -- ---- sorted
 

@@ -1,5 +1,5 @@
 -- The first class upward that isn't of the file, and what it inherits.
-use Rattle.std.proofs.Common.{◌≡◌, ◌⊎◌, inl, inr, ℕ, zero, suc, ◌+◌, ◌<◌, ◌≤◌, Bool, true, false, cond, List, [], ◌∷◌, ◌++◌, length, get_or, map, take, drop, Option, Some, None, slice_get, option_map, refl, sym, ap, subst, ◌∙◌, arith}
+use Rattle.std.proofs.Common.{◌≡◌, ℕ, zero, suc, ◌+◌, ◌<◌, Bool, true, false, cond, List, [], ◌∷◌, ◌++◌, length, map, take, drop, Option, Some, None, slice_get, option_map, refl, sym, ap, subst, ◌∙◌, arith}
 use Rattle.std.specs.Prelude.{position, is_some, find, Contains, MatchOption}
 use Rattle.std.specs.Str.{bytes_eq}
 use Rattle.std.proofs.lemmas.Option.{slice_get_within}
@@ -25,8 +25,16 @@ use Rattle.cc_owners.specs.declared.place.Found.{Found}
 use Rattle.cc_owners.specs.Beyond.{listed_place, IsUndefined, Listed, IsFoundListed, IsListed}
 use Rattle.cc_owners.specs.Listings.{class_methods}
 use Rattle.cc_owners.proofs.Climbing.{ancestry_once, from_there}
-use Rattle.cc_owners.proofs.Lists.{Among, first, later, some_is, Parted, parted, length_both, not_this}
+use Rattle.cc_owners.proofs.Lists.{Among, first, later, some_is, parted, length_both}
 use Rattle.cc_owners.proofs.Positions.{Stands, found_here, found_at}
+
+pub none_if : {A : Type 0} (found : Option A) → is_some found ≡ false → found ≡ None
+none_if None e = refl
+none_if (Some x) e = absurd cc
+
+pub some_if : {A : Type 0} (found : Option A) → is_some found ≡ true → found ≡ None → ⊥
+some_if None e is = absurd cc
+some_if (Some x) e is = absurd cc
 
 -- ---- defined or not
 

@@ -8,3 +8,7 @@ pub mod Searching
 pub mod Listings
 pub mod Reversing
 pub mod Inheriting
+pub mod Chains
+pub mod MethodOwning
+pub mod FieldChains
+pub mod FieldOwning

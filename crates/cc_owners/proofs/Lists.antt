@@ -135,3 +135,9 @@ number_at names (x ∷ xs) (n ∷ ns) (suc i) d are within = let rest : map (sli
 
 pub as_many : (names order : List (List ℕ)) (numbers : List ℕ) → AreNumbersOf names order numbers → length order ≡ length numbers
 as_many names order numbers are = sym (length-map order Some) ∙ (ap length (sym are) ∙ length-map numbers (slice_get names))
+
+pub pushed : {A : Type 0} (xs : List A) (x : A) (at : ℕ) (y : A) → slice_get (xs ++ x ∷ []) at ≡ Some y → (slice_get xs at ≡ Some y) ⊎ ((at ≡ length xs) × (x ≡ y))
+pushed [] x zero y there = inr (refl, some_is x y there)
+pushed [] x (suc at) y there = absurd cc
+pushed (z ∷ xs) x zero y there = inl there
+pushed (z ∷ xs) x (suc at) y there = elim (pushed xs x at y there) [ inl old ↦ inl old | inr (last, same) ↦ inr (ap suc last, same) ]

@@ -1,7 +1,6 @@
 -- The place of a member in a class of a number.
 use Rattle.std.proofs.Common.{◌≡◌, ℕ, Option, Some, None, true, false, List, slice_get, option_and_then, refl, sym, ap, subst, ◌∙◌}
 use Rattle.std.specs.Prelude.{is_some}
-use Rattle.cc_meaning.specs.declared.file.RawClass.{RawClass}
 use Rattle.cc_meaning_resolution.specs.Declared.{members_of}
 use Rattle.cc_meaning_linking.specs.declared.outline.Outline.{Outline}
 use Rattle.cc_meaning_linking.specs.Outlines.{definition_number}

@@ -1,5 +1,5 @@
 -- A search of interfaces, each followed by those above it: what it has handled and what waits on its stack.
-use Rattle.std.proofs.Common.{◌≡◌, ◌⊎◌, inl, inr, ℕ, zero, suc, ◌+◌, ◌<◌, ◌≤◌, Bool, true, false, cond, eqb, List, [], ◌∷◌, ◌++◌, length, get_or, map, Option, Some, None, slice_get, refl, sym, ap, subst, ◌∙◌, arith}
+use Rattle.std.proofs.Common.{◌≡◌, ◌⊎◌, inl, inr, ℕ, zero, suc, ◌+◌, ◌<◌, Bool, true, false, cond, eqb, List, [], ◌∷◌, ◌++◌, length, get_or, map, Some, None, slice_get, refl, sym, ap, subst, ◌∙◌, arith}
 use Rattle.std.specs.Prelude.{Contains, reverse, slice_set}
 use Rattle.std.proofs.lemmas.Bool.Decides.{Decides-eqb}
 use Rattle.std.proofs.lemmas.List.{reverse-append, reverse-reverse, length-reverse}
@@ -10,7 +10,6 @@ use Rattle.cc_meaning_linking.specs.declared.outline.Outline.{Outline}
 use Rattle.cc_meaning_linking.specs.Climbing.{InterfacesHaveLists}
 use Rattle.cc_meaning_linking.specs.Outlines.{AreNumbersOf}
 use Rattle.cc_owners.specs.declared.linked.Linked.{Linked}
-use Rattle.cc_owners.specs.declared.place.Found.{Found}
 use Rattle.cc_owners.specs.Entered.{OnlyMarked, AreEntered, IsFoundAbove}
 use Rattle.cc_owners.specs.Known.{IsKnown, Has, IsFound}
 use Rattle.cc_owners.specs.Members.{member_of}
@@ -146,16 +145,20 @@ searches_done linked row named marks search stack empty s = from s.rest s.pendin
     from : (rest pending : List (List ℕ)) → AreNumbersOf linked.names.now pending [] → Superinterfaces linked.ids.now pending rest → Superinterfaces linked.ids.now named (s.handled ++ rest) → IsFoundAbove linked row marks search named None
     from rest (x ∷ pending) numbers upper all = absurd cc
     from _ [] numbers Superinterfaces.none all =
-        let whole : Superinterfaces linked.ids.now named s.handled = subst (Superinterfaces linked.ids.now named) (ends_empty s.handled) all in
-        (s.handled, whole, s.clear, record {
-          named = s.roots ++ named;
-          searched = s.earlier ++ s.handled;
-          above = both linked.ids.now s.roots named s.earlier s.handled s.before whole;
-          clear = none_of_both (Has linked row) s.earlier s.handled s.clear_earlier s.clear;
-          among = λ class marked.
-              let (name, there, held) = s.among class marked in
-              (name, there, among_contains (s.earlier ++ s.handled) name held);
-        })
+        let whole : Superinterfaces linked.ids.now named s.handled = subst (Superinterfaces linked.ids.now named) (ends_empty s.handled) all in (
+          s.handled,
+          whole,
+          s.clear,
+          record {
+            named = s.roots ++ named;
+            searched = s.earlier ++ s.handled;
+            above = both linked.ids.now s.roots named s.earlier s.handled s.before whole;
+            clear = none_of_both (Has linked row) s.earlier s.handled s.clear_earlier s.clear;
+            among = λ class marked.
+                let (name, there, held) = s.among class marked in
+                (name, there, among_contains (s.earlier ++ s.handled) name held);
+          },
+        )
 
 -- what comes off the stack
 pub record Taken (linked : Linked) (left : List ℕ) (class : ℕ) (rest : List (List ℕ)) : Type 0 where
@@ -188,7 +191,7 @@ module _ (linked : Linked) (row : ℕ) (named : List (List ℕ)) (marks : List �
 
   whole : Superinterfaces linked.ids.now (s.roots ++ named) ((s.earlier ++ s.handled) ++ (t.name ∷ (t.begins.above ++ behind)))
   whole = subst (Superinterfaces linked.ids.now (s.roots ++ named)) (ap (λ r. s.earlier ++ (s.handled ++ r)) t.begins.is ∙ sym (together s.earlier s.handled (t.name ∷ (t.begins.above ++ behind))))
-    (both linked.ids.now s.roots named s.earlier (s.handled ++ s.rest) s.before s.all)
+      (both linked.ids.now s.roots named s.earlier (s.handled ++ s.rest) s.before s.all)
 
   wider : (more : List (List ℕ)) (name : List ℕ) → Among (s.earlier ++ s.handled) name → Among (s.earlier ++ (s.handled ++ more)) name
   wider more name held = subst (λ l. Among l name) (together s.earlier s.handled more) (in_front (s.earlier ++ s.handled) more name held)
@@ -244,9 +247,9 @@ module _ (linked : Linked) (row : ℕ) (named : List (List ℕ)) (marks : List �
     clear_earlier = s.clear_earlier;
     clear = none_of_both (Has linked row) s.handled (t.name ∷ []) s.clear (lacks, tt);
     among = λ other marked. elim (set_there marks class mark search other there marked) [
-        | inl old ↦ let (n, where_is, among) = s.among other old in (n, where_is, wider (t.name ∷ []) n among)
-        | inr new ↦ (t.name, ap (slice_get linked.names.now) new ∙ t.there, subst (λ l. Among l t.name) (together s.earlier s.handled (t.name ∷ [])) (at_end (s.earlier ++ s.handled) t.name))
-      ];
+      | inl old ↦ let (n, where_is, among) = s.among other old in (n, where_is, wider (t.name ∷ []) n among)
+      | inr new ↦ (t.name, ap (slice_get linked.names.now) new ∙ t.there, subst (λ l. Among l t.name) (together s.earlier s.handled (t.name ∷ [])) (at_end (s.earlier ++ s.handled) t.name))
+    ];
   }
     where
       order : reverse next ≡ outline.interfaces ++ reverse left

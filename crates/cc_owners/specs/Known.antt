@@ -1,5 +1,5 @@
 -- What is known of that by which members are looked for, and what is found.
-use Rattle.std.specs.Prelude.{◌≡◌, ℕ, Bool, true, List, slice_get, Some, is_some}
+use Rattle.std.specs.Prelude.{◌≡◌, ℕ, true, List, slice_get, Some, is_some}
 use Rattle.cc_meaning_program.specs.ClassFaults.{AreSound}
 use Rattle.cc_meaning_program.specs.ClassNames.{AreClassNames}
 use Rattle.cc_meaning_resolution.specs.Ancestry.{Ancestry}

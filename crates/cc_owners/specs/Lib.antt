@@ -5,3 +5,4 @@ pub mod Known
 pub mod Entered
 pub mod Listings
 pub mod Beyond
+pub mod Fields

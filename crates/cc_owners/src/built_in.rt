@@ -34,11 +34,7 @@ const PRINT_STREAM: [&[u8]; 11] = [
 
 const OBJECT: [&[u8]; 2] = [b"<init>()V", b"equals(Ljava/lang/Object;)Z"];
 
-const STRING: [&[u8]; 3] = [
-    b"charAt(I)C",
-    b"equals(Ljava/lang/Object;)Z",
-    b"length()I",
-];
+const STRING: [&[u8]; 3] = [b"charAt(I)C", b"equals(Ljava/lang/Object;)Z", b"length()I"];
 
 const STRING_BUILDER: [&[u8]; 8] = [
     b"<init>()V",

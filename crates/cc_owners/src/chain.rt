@@ -61,8 +61,9 @@ pub(crate) fn first_in_method_order(
         IsFoundInMethodOrder linked.now row order found) }
 {
     interfaces_have_lists();
-    match first_among(linked, classes, row) {
-        Some(found) => Ok(Some(found)),
-        None => first_of_interfaces(alloc, linked, classes, row, marks, search),
+    if let Some(found) = first_among(linked, classes, row) {
+        return Ok(Some(found));
     }
+    let found = first_of_interfaces(alloc, linked, classes, row, marks, search)?;
+    Ok(found)
 }

@@ -43,11 +43,7 @@ fn method_rows(alloc: Global, methods: &[RawMethod]) -> Result<Vec<u32>, AllocEr
 
 /// The rows of a class's members.
 #[tactic(auto, unfolding(crate::specs::Places::rows_of))]
-fn member_rows(
-    alloc: Global,
-    table: MemberTable,
-    class: &RawClass,
-) -> Result<Vec<u32>, AllocError>
+fn member_rows(alloc: Global, table: MemberTable, class: &RawClass) -> Result<Vec<u32>, AllocError>
     ensures { IfOk result (λ rows. rows.items ≡ rows_of table class.now) }
 {
     match table {
@@ -57,7 +53,7 @@ fn member_rows(
 }
 
 /// A count as a number of 32 bits. For so many things as don't have one there is no memory.
-fn number(count: usize) -> Result<u32, Memory>
+pub(crate) fn number(count: usize) -> Result<u32, Memory>
     ensures { IfOk result (λ number. number ≡ count) }
 {
     u32::try_from(count).map_err(|_| Memory)
@@ -113,13 +109,7 @@ impl Naming for EntryNames<'_> {
 
 /// The order of an entry, by the number of its definition and its name, and the name of a row in the definition of this number.
 #[tactic(auto, unfolding(crate::specs::Index::entry_name))]
-fn compare_entry(
-    ids: &Ids,
-    table: MemberTable,
-    entry: Entry,
-    definition: u32,
-    row: u32,
-) -> Ordering
+fn compare_entry(ids: &Ids, table: MemberTable, entry: Entry, definition: u32, row: u32) -> Ordering
     ensures { result ≡ slice_cmp nat_cmp (entry_name ids.now table entry) (definition ∷ member_of ids.now table row) }
 {
     let order = entry.definition.cmp(&definition);

@@ -1,14 +1,17 @@
 //! Members by their names within their classes, in the order of the units, without a copy of a name.
 
-ghost use Rattle.std.specs.Prelude.{◌≡◌};
+ghost use Rattle.std.specs.Prelude.{◌≡◌, ◌++◌, IfOk, OnOk};
+ghost use Rattle.std.specs.List.{flat_map};
 ghost use Rattle.cc_meaning.specs.declared.file.Ids.{Ids};
 ghost use Rattle.std.specs.Cmp.Lexicographic.{slice_cmp};
 ghost use Rattle.std.specs.Ordering.{nat_cmp};
-ghost use Rattle.cc_meaning_program.specs.Named.{field_member, method_member};
+ghost use Rattle.cc_meaning_program.specs.Named.{type_name, field_member, method_member};
 ghost use Rattle.cc_owners.specs.Members.{spelled, member_of};
 
 use crate::names::{text_of, type_name};
 use cc_meaning::file::Ids;
+use cc_meaning::lists::Units;
+use std::alloc::{AllocError, Global};
 use std::cmp::Ordering;
 
 /// The table of a file that the row of a member is of.
@@ -118,4 +121,33 @@ pub(crate) fn compare_members(ids: &Ids, table: MemberTable, a: u32, b: u32) -> 
     ensures { result ≡ slice_cmp nat_cmp (member_of ids.now table a) (member_of ids.now table b) }
 {
     compare(ids, member_name(ids, table, a), member_name(ids, table, b))
+}
+
+/// Puts the types of parameters behind a text, by their rows.
+fn add_params(text: &mut Units, ids: &Ids, params: &[u32]) -> Result<(), AllocError>
+    ensures { OnOk result (text.new ≡ text.old ++ flat_map (type_name ids.now) params.now) }
+{
+    for ty in params {
+        text.extend_from_slice(type_name(ids, *ty))?;
+    }
+    Ok(())
+}
+
+/// The name within its class that a row of a table gives, copied.
+#[tactic(auto, unfolding(crate::specs::Members::spelled))]
+pub(crate) fn member_text(
+    alloc: Global,
+    ids: &Ids,
+    table: MemberTable,
+    row: u32,
+) -> Result<Units, AllocError>
+    ensures { IfOk result (λ text. text ≡ member_of ids.now table row) }
+{
+    let member = member_name(ids, table, row);
+    let mut text = Units::from_slice(alloc, member.name)?;
+    text.extend_from_slice(member.opening)?;
+    add_params(&mut text, ids, member.params)?;
+    text.extend_from_slice(member.closing)?;
+    text.extend_from_slice(member.last)?;
+    Ok(text)
 }

@@ -3,7 +3,7 @@
 ghost use Rattle.std.specs.Prelude.{◌≡◌, ◌<◌, ◌++◌, ℕ, List, length, reverse, Contains, IfOk, OnOk};
 ghost use Rattle.cc_meaning_linking.specs.Outlines.{AreNumbersOf};
 ghost use Rattle.cc_owners.specs.Known.{IsKnown};
-ghost use Rattle.cc_owners.specs.Entered.{OnlyMarked, AreEntered, IsFoundAbove};
+ghost use Rattle.cc_owners.specs.Entered.{AreOlder, OnlyMarked, AreEntered, IsFoundAbove};
 
 use crate::linked::Linked;
 use crate::place::{Found, place_in};
@@ -14,6 +14,14 @@ use std::alloc::{AllocError, Global};
 
 /// For each class the number of the last search that has entered it.
 pub(crate) type Marks = List<usize>;
+
+/// Marks for so many classes, none of them of a search.
+pub(crate) fn no_marks(alloc: Global, count: usize) -> Result<Marks, AllocError>
+    ensures wide { IfOk result (λ marks. length marks ≡ count) }
+    ensures older { IfOk result (λ marks. AreOlder marks 1) }
+{
+    Ok(List::from_vec(vec![in alloc; 0; count]?))
+}
 
 /// Puts these on a stack, so that the first of them is taken first.
 fn push_reversed(stack: &mut ClassList, classes: &[ClassIx]) -> Result<(), AllocError>

@@ -1,7 +1,6 @@
-use Rattle.std.proofs.Common.{[], ◌∷◌, ◌≡◌, ◌<◌, true, length, get_or, subst, sym, ap, ◌∙◌, arith}
+use Rattle.std.proofs.Common.{inl, inr, [], ◌∷◌, ◌≡◌, true, get_or, subst, sym, ap, ◌∙◌, arith}
 use Rattle.std.specs.Prelude.{Contains, cond}
 use Rattle.std.proofs.lemmas.List.Elements.{Contains-get_or}
-use Rattle.cc_meaning.specs.declared.program.ClassKind.TheVariants.{BuiltIn, Array}
 use Rattle.cc_meaning_resolution.specs.Ancestry.{kind_of_class}
 use Rattle.cc_meaning_resolution.specs.Owners.{inherits}
 use Rattle.cc_owners.proofs.Inheriting.{looked_held, matched, numbers_looked, none_inherited, none_listing, first_inherited, inherits_not, inherits_built_in, inherits_array}
@@ -23,8 +22,8 @@ returns-in-BuiltIn c = λ beyond above are ancestry.
     let at = number_at linked.names.now (beyond ∷ above) c.args.classes.now 0 0 are c.requires.some in
     let same = some_is beyond at.0 at.1 in
     let kind = (c.requires.known.outlines.each (get_or c.args.classes.now 0 0) at.0 c.at.result.now at.2 c.at.ensures.get).kind in
-    let is = c.in-BuiltIn.is in
-    let inherited : inherits (kind_of_class linked.ids.now beyond) ≡ true = ? in
+    let inherited : inherits (kind_of_class linked.ids.now beyond) ≡ true =
+    ap (λ n. inherits (kind_of_class linked.ids.now n)) same ∙ (ap inherits (sym kind) ∙ elim c.in-BuiltIn.is [ inl e ↦ ap inherits e ∙ inherits_built_in | inr e ↦ ap inherits e ∙ inherits_array ]) in
     matched c.first_listed.result (λ none. none_listing linked beyond c.args.member.now above c.is_constructor.result c.is_constructor.ensures ancestry none)
     (λ found listed. first_inherited linked beyond c.args.member.now above c.is_constructor.result found c.is_constructor.ensures inherited listed)
     (c.first_listed.ensures (cond c.is_constructor.result (beyond ∷ []) (beyond ∷ above)) (numbers_looked linked beyond c.args.member.now above c.is_constructor.result c.args.classes.now c.looked_at.result.now c.looked_at.ensures are))

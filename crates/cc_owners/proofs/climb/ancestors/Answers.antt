@@ -1,6 +1,6 @@
 use Rattle.std.proofs.Common.{[], ◌∷◌, length, sym, ap, subst, ◌∙◌, arith}
 use Rattle.cc_owners.proofs.Lists.{length_both}
-use Rattle.cc_owners.proofs.Climbing.{Climbs, climbs_first, climbs_within, climbs_more, climbs_room, climbs_all}
+use Rattle.cc_owners.proofs.Climbing.{Climbs, climbs_first, climbs_within, climbs_more, climbs_room}
 use Rattle.cc_owners.proofs.climb.ancestors.Goals as goal
 
 pub loop-next-init : goal.loop-next-init

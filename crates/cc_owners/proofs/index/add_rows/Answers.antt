@@ -1,7 +1,5 @@
-use Rattle.std.proofs.Common.{get_or, ap, ◌∙◌}
+use Rattle.std.proofs.Common.{get_or}
 use Rattle.std.proofs.lemmas.Option.{slice_get-get_or}
-use Rattle.cc_owners.specs.Index.{entry_at}
-use Rattle.cc_owners.specs.declared.index.Entry.{Entry}
 use Rattle.cc_owners.proofs.Indexing.{added_none, added_more}
 use Rattle.cc_owners.proofs.index.add_rows.Goals as goal
 

@@ -1,7 +1,6 @@
-use Rattle.std.proofs.Common.{refl, length, ap, sym, subst, ◌∙◌}
+use Rattle.std.proofs.Common.{refl, length, sym, subst, ◌∙◌}
 use Rattle.std.proofs.lemmas.Option.{slice_get_read}
-use Rattle.cc_owners.specs.Index.{AreAdded, AreGathered}
-use Rattle.cc_owners.specs.Places.{rows_of}
+use Rattle.cc_owners.specs.Index.{AreGathered}
 use Rattle.cc_owners.proofs.Indexing.{gathered_none, gathered_more}
 use Rattle.cc_owners.proofs.index.all_entries.Goals as goal
 

@@ -1,4 +1,4 @@
-use Rattle.std.proofs.Common.{length, get_or, sym, ◌∙◌, arith}
+use Rattle.std.proofs.Common.{get_or, sym, ◌∙◌, arith}
 use Rattle.std.proofs.lemmas.List.Elements.{Contains-get_or}
 use Rattle.cc_owners.specs.Known.{Has}
 use Rattle.cc_owners.proofs.Lists.{number_at, as_many, none_yet, none_more, none_taken, first_at}

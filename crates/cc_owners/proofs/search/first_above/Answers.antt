@@ -1,5 +1,4 @@
-use Rattle.std.proofs.Common.{inl, ◌<◌, Some, length, sym, ap, subst, ◌∙◌, arith}
-use Rattle.std.specs.Prelude.{reverse}
+use Rattle.std.proofs.Common.{inl, Some, length, sym, ap, subst, ◌∙◌, arith}
 use Rattle.std.proofs.lemmas.List.{length-set}
 use Rattle.cc_owners.proofs.Placing.{has_not}
 use Rattle.cc_owners.proofs.Searching.{Searches, names_of, searches_first, searches_done, searches_within, t, searches_skip, searches_found_above, searches_more, shrinks, only_more}
