@@ -21,7 +21,7 @@ joined ids _ ys _ behind none others = others
 joined ids _ ys _ behind (next {name = name} {rest = rest} {interfaces = i} {behind = b} upper on) others =
     subst (λ l. WithInterfaces ids (name ∷ rest ++ ys) (name ∷ l)) (sym (together i b behind)) (next upper (joined ids rest ys b behind on others))
 
-have_lists : (law : InterfacesHaveLists) (ids : Ids) (classes : List RawClass) → AreSound ids classes → (order : List (List ℕ)) → (searched : List (List ℕ)) × WithInterfaces ids order searched
+pub have_lists : (law : InterfacesHaveLists) (ids : Ids) (classes : List RawClass) → AreSound ids classes → (order : List (List ℕ)) → (searched : List (List ℕ)) × WithInterfaces ids order searched
 have_lists law ids classes sound [] = ([], none)
 have_lists law ids classes sound (name ∷ order) =
     let (interfaces, upper) = law ids classes sound (interfaces_named ids name) in

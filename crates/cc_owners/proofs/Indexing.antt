@@ -1,6 +1,6 @@
 -- The members that a file defines, gathered, sorted and found.
-use Rattle.std.proofs.Common.{◌≡◌, ◌≢◌, ◌⊎◌, inl, inr, ℕ, zero, suc, ◌+◌, ◌<◌, ◌≤◌, Bool, true, false, List, [], ◌∷◌, ◌++◌, length, get_or, map, Option, Some, None, slice_get, option_map, refl, sym, ap, subst, ◌∙◌, arith}
-use Rattle.std.specs.Prelude.{Contains}
+use Rattle.std.proofs.Common.{◌≡◌, ◌≢◌, ◌⊎◌, inl, inr, ℕ, zero, suc, ◌+◌, ◌<◌, ◌≤◌, Bool, true, false, List, [], ◌∷◌, ◌++◌, length, get_or, map, Option, Some, None, slice_get, option_map, option_and_then, refl, sym, ap, subst, ◌∙◌, arith}
+use Rattle.std.specs.Prelude.{Contains, position}
 use Rattle.std.specs.List.{HoldsAt}
 use Rattle.std.specs.List.Sorted.{IsSortedBy, IsNonDecreasingBy, IsPartitionPoint}
 use Rattle.std.specs.Str.{bytes_eq}
@@ -15,19 +15,22 @@ use Rattle.std.proofs.lemmas.List.Sorted.{searchable_from_sorted}
 use Rattle.std.proofs.lemmas.Map.Lookups.{exact_bytes}
 use Rattle.std.proofs.lemmas.Option.{slice_get-get_or, slice_get-map, slice_get_within, slice_get_read, get_or_from_slice_get}
 use Rattle.std.proofs.lemmas.Slice.Eq.{bytes_eq-Decides}
+use Rattle.cc_meaning.specs.declared.file.ClassRow.{ClassRow}
 use Rattle.cc_meaning.specs.declared.file.Ids.{Ids}
 use Rattle.cc_meaning.specs.declared.file.RawClass.{RawClass}
 use Rattle.cc_meaning.specs.declared.file.RawField.{RawField}
 use Rattle.cc_meaning.specs.declared.file.RawMethod.{RawMethod}
+use Rattle.cc_meaning.specs.Order.{IsRising}
 use Rattle.cc_meaning_program.specs.ClassFaults.{AreSound, Repeats, of_field, of_method}
-use Rattle.cc_meaning_program.specs.Named.{field_member, method_member}
+use Rattle.cc_meaning_program.specs.Named.{type_name, field_member, method_member}
+use Rattle.cc_meaning_resolution.specs.Declared.{members_of}
 use Rattle.cc_names.specs.InOrder.{AreInOrder}
 use Rattle.cc_owners.specs.declared.index.Entry.{Entry}
 use Rattle.cc_owners.specs.declared.members.MemberTable.{MemberTable}
 use Rattle.cc_owners.specs.declared.members.MemberTable.TheVariants.{Fields, Methods}
 use Rattle.cc_owners.specs.Members.{member_of}
-use Rattle.cc_owners.specs.Places.{rows_of, place_among}
-use Rattle.cc_owners.specs.Index.{entry_at, entry_name, AreAdded, AreGathered, AreEntries}
+use Rattle.cc_owners.specs.Places.{rows_of, place_among, place_of}
+use Rattle.cc_owners.specs.Index.{entry_at, entry_name, AreAdded, AreGathered, AreEntries, AreDefinedRows}
 use Rattle.cc_owners.proofs.Lists.{some_is}
 use Rattle.cc_owners.proofs.Positions.{position_is, position_none}
 
@@ -128,6 +131,31 @@ apart_fails a b apart = decided a b (bytes_eq a b) refl apart
 same_passes : (a b : List ℕ) → a ≡ b → bytes_eq a b ≡ true
 same_passes a b e = (bytes_eq-Decides a b).1 e
 
+-- what isn't found among names that rise
+module _ {A : Type 0} (name_of : A → List ℕ) (items : List A) (rise : IsRising (map name_of items)) (name : List ℕ) where
+  sorted_from : IsSortedBy (λ a b. is_lt (slice_cmp nat_cmp (name_of a) (name_of b))) items
+  sorted_from k d low within =
+      let less = rise k (k + 1) (name_of d) (omega arith) (omega (arith, within, length-map items name_of)) in
+      let turned : is_lt (slice_cmp nat_cmp (get_or (map name_of items) (k + 1) (name_of d)) (get_or (map name_of items) k (name_of d))) ≡ false =
+      ap is_lt (nat_list_cmp_total.antisymm (get_or (map name_of items) (k + 1) (name_of d)) (get_or (map name_of items) k (name_of d)) ∙ ap ordering_reverse less) in
+      subst (λ a. is_lt (slice_cmp nat_cmp a (name_of (get_or items k d))) ≡ false) (mapped_at name_of items (k + 1) d)
+      (subst (λ b. is_lt (slice_cmp nat_cmp (get_or (map name_of items) (k + 1) (name_of d)) b) ≡ false) (mapped_at name_of items k d) turned)
+
+  abbrev Parts : ℕ → Type 0
+  Parts end = IsPartitionPoint (λ item. slice_cmp nat_cmp (name_of item) name ≡ Less) (λ item. slice_cmp nat_cmp (name_of item) name ≡ Greater) items end
+
+  nowhere : (end : ℕ) → Parts end → (k : ℕ) (d : A) → k < length items → slice_cmp nat_cmp (name_of (get_or items k d)) name ≡ Equal → (k < end) ⊎ (end ≤ k) → ⊥
+  nowhere end split k d within equal (inl below) = absurd (let e : Equal ≡ Less = sym equal ∙ split.0 k d (omega arith) below in cc)
+  nowhere end split k d within equal (inr above) = absurd (let e : Equal ≡ Greater = sym equal ∙ split.1 k d above within in cc)
+
+  pub not_held : (end : ℕ) → (IsNonDecreasingBy (λ item. ordering_index (slice_cmp nat_cmp (name_of item) name)) items → Parts end) → Contains (map name_of items) name → ⊥
+  not_held end told (k, within, is) =
+      let split = told (searchable_from_sorted nat_list_cmp_total name_of items name sorted_from) in
+      let (item, there, named) = read_mapped name_of items k name (slice_get_read (map name_of items) (length (map name_of items)) k name refl within (sym is)) in
+      let got : get_or items k item ≡ item = get_or_from_slice_get items k item item there in
+      let equal : slice_cmp nat_cmp (name_of (get_or items k item)) name ≡ Equal = subst (λ n. slice_cmp nat_cmp n name ≡ Equal) (sym (ap name_of got ∙ named)) (tied_itself nat_list_cmp_total name) in
+      nowhere end split k item (slice_get_within items k item there) equal (cases_lt k end)
+
 module _ (ids : Ids) (classes : List RawClass) (table : MemberTable) (entries : List Entry) (sound : AreSound ids classes) (are : AreEntries ids classes table entries) (definition row : ℕ) where
   abbrev searched : List ℕ
   searched = definition ∷ member_of ids table row
@@ -151,39 +179,16 @@ module _ (ids : Ids) (classes : List RawClass) (table : MemberTable) (entries : 
       Some (get_or entries at d).place ≡ place_among ids table (member_of ids table row) (slice_get classes definition)
   found_place at d within equal = of_entry (get_or entries at d) (at, within, get_or_from_slice_get entries at (get_or entries at d) (get_or entries at d) (slice_get-get_or entries at d within)) (exact_bytes (entry_name ids table (get_or entries at d)) searched (equal d))
 
-  sorted_from : IsSortedBy (λ a b. is_lt (slice_cmp nat_cmp (entry_name ids table a) (entry_name ids table b))) entries
-  sorted_from k d low within =
-      let less = are.rise k (k + 1) (entry_name ids table d) (omega arith) (omega (arith, within, length-map entries (entry_name ids table))) in
-      let turned : is_lt (slice_cmp nat_cmp (get_or (map (entry_name ids table) entries) (k + 1) (entry_name ids table d)) (get_or (map (entry_name ids table) entries) k (entry_name ids table d))) ≡ false = ap is_lt (nat_list_cmp_total.antisymm (get_or (map (entry_name ids table) entries) (k + 1) (entry_name ids table d)) (get_or (map (entry_name ids table) entries) k (entry_name ids table d)) ∙ ap ordering_reverse less) in
-      subst (λ a. is_lt (slice_cmp nat_cmp a (entry_name ids table (get_or entries k d))) ≡ false) (mapped_at (entry_name ids table) entries (k + 1) d)
-      (subst (λ b. is_lt (slice_cmp nat_cmp (get_or (map (entry_name ids table) entries) (k + 1) (entry_name ids table d)) b) ≡ false) (mapped_at (entry_name ids table) entries k d) turned)
-
-  nowhere : (end : ℕ) → IsPartitionPoint (λ entry. slice_cmp nat_cmp (entry_name ids table entry) searched ≡ Less) (λ entry. slice_cmp nat_cmp (entry_name ids table entry) searched ≡ Greater) entries end →
-      (k : ℕ) (d : Entry) → k < length entries → slice_cmp nat_cmp (entry_name ids table (get_or entries k d)) searched ≡ Equal → (k < end) ⊎ (end ≤ k) → ⊥
-  nowhere end split k d within equal (inl below) = absurd (let e : Equal ≡ Less = sym equal ∙ split.0 k d (omega arith) below in cc)
-  nowhere end split k d within equal (inr above) = absurd (let e : Equal ≡ Greater = sym equal ∙ split.1 k d above within in cc)
-
   pub nothing_found : (end : ℕ) →
       (IsNonDecreasingBy (λ entry. ordering_index (slice_cmp nat_cmp (entry_name ids table entry) searched)) entries → IsPartitionPoint (λ entry. slice_cmp nat_cmp (entry_name ids table entry) searched ≡ Less) (λ entry. slice_cmp nat_cmp (entry_name ids table entry) searched ≡ Greater) entries end) →
       None ≡ place_among ids table (member_of ids table row) (slice_get classes definition)
   unfolding place_among
   nothing_found end told = from (slice_get classes definition) refl
     where
-      split : IsPartitionPoint (λ entry. slice_cmp nat_cmp (entry_name ids table entry) searched ≡ Less) (λ entry. slice_cmp nat_cmp (entry_name ids table entry) searched ≡ Greater) entries end
-      split = told (searchable_from_sorted nat_list_cmp_total (entry_name ids table) entries searched sorted_from)
-
-      not_held : Contains (map (entry_name ids table) entries) searched → ⊥
-      not_held (k, within, is) =
-          let (entry, there, named) = read_mapped (entry_name ids table) entries k searched (slice_get_read (map (entry_name ids table) entries) (length (map (entry_name ids table) entries)) k searched refl within (sym is)) in
-          let got : get_or entries k entry ≡ entry = get_or_from_slice_get entries k entry entry there in
-          let equal : slice_cmp nat_cmp (entry_name ids table (get_or entries k entry)) searched ≡ Equal =
-          subst (λ n. slice_cmp nat_cmp n searched ≡ Equal) (sym (ap (entry_name ids table) got ∙ named)) (tied_itself nat_list_cmp_total searched) in
-          nowhere end split k entry (slice_get_within entries k entry there) equal (cases_lt k end)
-
       from : (read : Option RawClass) → slice_get classes definition ≡ read → None ≡ place_among ids table (member_of ids table row) read
       from None e = refl
       from (Some class) e = sym (position_none passes (rows_of table class) (λ j other stands. apart_fails (member_of ids table other) (member_of ids table row)
-          (λ same. not_held (subst (λ m. Contains (map (entry_name ids table) entries) (definition ∷ m)) same (are.all definition j other class e stands)))))
+          (λ same. not_held (entry_name ids table) entries are.rise searched end told (subst (λ m. Contains (map (entry_name ids table) entries) (definition ∷ m)) same (are.all definition j other class e stands)))))
 
 -- ---- sorted
 
@@ -194,3 +199,35 @@ entries_sorted ids classes table all entries gathered order = record {
   among = λ entry held. gathered.among entry (order.among entry held);
   all = λ definition place row class there stands. order.named (entry_at definition place row) (gathered.all definition place row class (slice_get_within classes definition class there) there stands);
 }
+
+-- ---- defined anywhere
+
+pub rows_sorted : (ids : Ids) (classes : List RawClass) (table : MemberTable) (entries : List Entry) (rows : List ℕ) → AreEntries ids classes table entries → AreInOrder (member_of ids table) (map (λ (entry : Entry). entry.row) entries) rows →
+    AreDefinedRows ids classes table rows
+unfolding entry_name
+rows_sorted ids classes table entries rows are order = record {
+  rise = order.rise;
+  all = λ definition place row class there stands.
+      let (k, within, is) = are.all definition place row class there stands in
+      let (entry, at, named) = read_mapped (entry_name ids table) entries k (definition ∷ member_of ids table row)
+      (slice_get_read (map (entry_name ids table) entries) (length (map (entry_name ids table) entries)) k (definition ∷ member_of ids table row) refl within (sym is)) in
+      let same : member_of ids table entry.row ≡ member_of ids table row = cc in
+      let read : slice_get (map (λ (e : Entry). e.row) entries) k ≡ Some entry.row = slice_get-map (λ (e : Entry). e.row) entries k ∙ ap (option_map (λ (e : Entry). e.row)) at in
+      let held : Contains (map (λ (e : Entry). e.row) entries) entry.row = (k, slice_get_within (map (λ (e : Entry). e.row) entries) k entry.row read, get_or_from_slice_get (map (λ (e : Entry). e.row) entries) k entry.row entry.row read) in
+      subst (Contains (map (member_of ids table) rows)) same (order.named entry.row held);
+}
+
+-- where no member of a name is defined, no class has one
+pub lacks_all : (ids : Ids) (classes : List RawClass) (table : MemberTable) (rows : List ℕ) (row : ℕ) → AreDefinedRows ids classes table rows → (Contains (map (member_of ids table) rows) (member_of ids table row) → ⊥) → (class : List ℕ) →
+    place_of ids classes table class (member_of ids table row) ≡ None
+unfolding place_of members_of place_among
+lacks_all ids classes table rows row are away class = from (position (λ (stated : ClassRow). bytes_eq (type_name ids stated.class) class) ids.classes)
+  where
+    in_class : (read : Option RawClass) (definition : ℕ) → slice_get classes definition ≡ read → place_among ids table (member_of ids table row) read ≡ None
+    in_class None definition e = refl
+    in_class (Some members) definition e = position_none (λ other. bytes_eq (member_of ids table other) (member_of ids table row)) (rows_of table members) (λ j other stands. apart_fails (member_of ids table other) (member_of ids table row)
+        (λ same. away (subst (Contains (map (member_of ids table) rows)) same (are.all definition j other members e stands))))
+
+    from : (definition : Option ℕ) → place_among ids table (member_of ids table row) (option_and_then (slice_get classes) definition) ≡ None
+    from None = refl
+    from (Some definition) = in_class (slice_get classes definition) definition refl

@@ -37,3 +37,8 @@ pub record AreEntries (ids : Ids) (classes : List RawClass) (table : MemberTable
   pub rise : IsRising (map (entry_name ids table) entries)
   pub among : (entry : Entry) → Contains entries entry → IsEntry classes table entry
   pub all : (definition place row : ℕ) (class : RawClass) → slice_get classes definition ≡ Some class → slice_get (rows_of table class) place ≡ Some row → Contains (map (entry_name ids table) entries) (definition ∷ member_of ids table row)
+
+-- rows of these members, in the order of the members' names, one for each name
+pub record AreDefinedRows (ids : Ids) (classes : List RawClass) (table : MemberTable) (rows : List ℕ) : Type 0 where
+  pub rise : IsRising (map (member_of ids table) rows)
+  pub all : (definition place row : ℕ) (class : RawClass) → slice_get classes definition ≡ Some class → slice_get (rows_of table class) place ≡ Some row → Contains (map (member_of ids table) rows) (member_of ids table row)

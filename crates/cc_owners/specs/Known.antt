@@ -7,7 +7,7 @@ use Rattle.cc_meaning_resolution.specs.Searches.{First}
 use Rattle.cc_meaning_linking.specs.Outlines.{AreNumbersOf, AreOutlines}
 use Rattle.cc_owners.specs.declared.linked.Linked.{Linked}
 use Rattle.cc_owners.specs.declared.place.Found.{Found}
-use Rattle.cc_owners.specs.Index.{AreEntries}
+use Rattle.cc_owners.specs.Index.{AreEntries, AreDefinedRows}
 use Rattle.cc_owners.specs.Members.{member_of}
 use Rattle.cc_owners.specs.Places.{place_of}
 
@@ -16,6 +16,7 @@ pub record IsKnown (linked : Linked) : Type 0 where
   pub names : AreClassNames linked.ids.now linked.names.now
   pub outlines : AreOutlines linked.ids.now linked.names.now linked.outlines.now
   pub entries : AreEntries linked.ids.now linked.classes.now linked.table linked.entries.now
+  pub defined : AreDefinedRows linked.ids.now linked.classes.now linked.table linked.defined.now
 
 -- a class, and those above it up to Object, by their numbers
 pub record AreAncestors (linked : Linked) (class : ℕ) (chain : List ℕ) : Type 0 where

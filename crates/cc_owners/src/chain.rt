@@ -8,7 +8,7 @@ ghost use Rattle.cc_owners.specs.Known.{IsKnown};
 ghost use Rattle.cc_owners.specs.Entered.{AreOlder, OnlyMarked, AreEntered, IsFoundAbove, IsFoundInMethodOrder};
 
 use crate::linked::Linked;
-use crate::place::{Found, first_among};
+use crate::place::{Found, first_among, is_nowhere};
 use crate::search::{Marks, first_above};
 use cc_linking_laws::interfaces_have_lists;
 use cc_meaning::lists::ClassIx;
@@ -61,6 +61,9 @@ pub(crate) fn first_in_method_order(
         IsFoundInMethodOrder linked.now row order found) }
 {
     interfaces_have_lists();
+    if is_nowhere(linked, row) {
+        return Ok(None);
+    }
     if let Some(found) = first_among(linked, classes, row) {
         return Ok(Some(found));
     }

@@ -7,7 +7,7 @@ ghost use Rattle.cc_owners.specs.Entered.{AreOlder, OnlyMarked, AreEntered};
 ghost use Rattle.cc_owners.specs.Fields.{IsFoundAt, IsFoundInFieldOrder};
 
 use crate::linked::Linked;
-use crate::place::{Found, place_in};
+use crate::place::{Found, is_nowhere, place_in};
 use crate::search::{Marks, first_above};
 use cc_linking_laws::interfaces_have_lists;
 use cc_meaning::lists::ClassIx;
@@ -57,6 +57,9 @@ pub(crate) fn first_in_field_order(
     ensures found { IfOk result (λ found. (order : List (List ℕ)) → AreNumbersOf linked.now.names.now order classes.now → IsFoundInFieldOrder linked.now row order found) }
 {
     interfaces_have_lists();
+    if is_nowhere(linked, row) {
+        return Ok(None);
+    }
     for class in classes {
         if let Some(found) = first_at(alloc, linked, *class, row, marks, search)? {
             return Ok(Some(found));

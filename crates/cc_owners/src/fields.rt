@@ -15,7 +15,7 @@ ghost use Rattle.cc_owners.specs.Known.{IsKnown};
 use crate::beyond::first_beyond;
 use crate::climb::{ancestors, class_of};
 use crate::field_chain::first_in_field_order;
-use crate::index::{entries, number};
+use crate::index::{defined_rows, entries, number};
 use crate::linked::Linked;
 use crate::members::MemberTable;
 use crate::search::{Marks, no_marks};
@@ -85,6 +85,7 @@ pub fn field_owners(
     ensures { IfOk result (AreFieldOwners ids.now classes.now names.now) }
 {
     let entries = entries(alloc, ids, classes.as_slice(), MemberTable::Fields)?;
+    let defined = defined_rows(alloc, ids, MemberTable::Fields, &entries)?;
     let linked = Linked {
         ids,
         classes,
@@ -92,6 +93,7 @@ pub fn field_owners(
         outlines,
         table: MemberTable::Fields,
         entries: &entries,
+        defined: &defined,
     };
     let mut marks = no_marks(alloc, names.len())?;
     let mut owners = List::new(alloc);

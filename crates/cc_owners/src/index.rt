@@ -1,20 +1,24 @@
 //! The members that a file defines, in an order in which they are found by their class and their name.
 
 ghost use Rattle.std.specs.Prelude.{◌≡◌, ◌⊎◌, ◌∷◌, ℕ, length, map, slice_get, Some, Contains, IfOk, OnOk};
+ghost use Rattle.std.specs.Bool.{OnFalse};
 ghost use Rattle.std.specs.Cmp.Lexicographic.{slice_cmp};
 ghost use Rattle.std.specs.Ordering.{nat_cmp};
 ghost use Rattle.cc_meaning.specs.declared.file.RawClass.{RawClass};
 ghost use Rattle.cc_meaning.specs.declared.file.RawField.{RawField};
 ghost use Rattle.cc_meaning.specs.declared.file.RawMethod.{RawMethod};
+ghost use Rattle.cc_meaning.specs.Order.{IsRising};
 ghost use Rattle.cc_meaning_program.specs.ClassFaults.{AreSound};
+ghost use Rattle.cc_owners.specs.declared.index.Entry.{Entry};
 ghost use Rattle.cc_owners.specs.Members.{member_of};
 ghost use Rattle.cc_owners.specs.Places.{rows_of, place_among};
-ghost use Rattle.cc_owners.specs.Index.{entry_at, entry_name, AreAdded, AreGathered, AreEntries};
+ghost use Rattle.cc_owners.specs.Index.{entry_at, entry_name, AreAdded, AreGathered, AreEntries, AreDefinedRows};
 
 use crate::members::{MemberTable, compare_members};
 use cc_list::List;
 use cc_meaning::fault::Memory;
 use cc_meaning::file::{Ids, RawClass, RawField, RawMethod};
+use cc_meaning::lists::Rows;
 use cc_names::{Naming, in_order};
 use std::alloc::{AllocError, Global};
 use std::cmp::Ordering;
@@ -149,5 +153,57 @@ pub(crate) fn find(
     match entries.binary_search_by(|entry| compare_entry(ids, table, *entry, definition, row)) {
         Ok(at) => Some(entries[at].place),
         Err(_) => None,
+    }
+}
+
+/// Rows of members, which have the members' names within their classes.
+#[derive(Clone, Copy)]
+struct MemberNames<'a> {
+    ids: &'a Ids,
+    table: MemberTable,
+}
+
+impl Naming for MemberNames<'_> {
+    type Item = u32;
+
+    ghost name = { λ names row. member_of names.ids.now names.table row };
+
+    fn compare(&self, one: u32, other: u32) -> Ordering {
+        compare_members(self.ids, self.table, one, other)
+    }
+}
+
+/// The rows of these members.
+fn entry_rows(alloc: Global, entries: &[Entry]) -> Result<Vec<u32>, AllocError>
+    ensures { IfOk result (λ rows. rows.items ≡ map (λ (entry : Entry). entry.row) entries.now) }
+{
+    entries.iter().map(|entry| entry.row).collect(alloc)
+}
+
+/// Rows of the members of a table that the file's classes define, in the order of the members' names, one for each name.
+pub(crate) fn defined_rows(
+    alloc: Global,
+    ids: &Ids,
+    table: MemberTable,
+    entries: &List<Entry>,
+) -> Result<Rows, AllocError>
+    ensures { IfOk result (λ rows. (classes : List RawClass) → AreEntries ids.now classes table entries.now → AreDefinedRows ids.now classes table rows) }
+{
+    let rows = entry_rows(alloc, entries.as_slice())?;
+    let sorted = in_order(alloc, &MemberNames { ids, table }, List::from_vec(rows))?;
+    Ok(sorted)
+}
+
+/// Whether a class of the file defines a member of a row's name.
+pub(crate) fn is_defined(ids: &Ids, table: MemberTable, rows: &Rows, row: u32) -> bool
+    requires { IsRising (map (member_of ids.now table) rows.now) }
+    ensures { OnFalse result (Contains (map (member_of ids.now table) rows.now) (member_of ids.now table row) → ⊥) }
+{
+    match rows
+        .as_slice()
+        .binary_search_by(|other| compare_members(ids, table, *other, row))
+    {
+        Ok(_) => true,
+        Err(_) => false,
     }
 }

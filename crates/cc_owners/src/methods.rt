@@ -16,7 +16,7 @@ ghost use Rattle.cc_owners.specs.Known.{IsKnown};
 use crate::beyond::beyond;
 use crate::chain::first_in_method_order;
 use crate::climb::{ancestors, class_of};
-use crate::index::{entries, number};
+use crate::index::{defined_rows, entries, number};
 use crate::linked::Linked;
 use crate::members::{MemberTable, member_text};
 use crate::search::{Marks, no_marks};
@@ -85,6 +85,7 @@ pub fn method_owners(
     ensures { IfOk result (AreMethodOwners ids.now classes.now names.now) }
 {
     let entries = entries(alloc, ids, classes.as_slice(), MemberTable::Methods)?;
+    let defined = defined_rows(alloc, ids, MemberTable::Methods, &entries)?;
     let linked = Linked {
         ids,
         classes,
@@ -92,6 +93,7 @@ pub fn method_owners(
         outlines,
         table: MemberTable::Methods,
         entries: &entries,
+        defined: &defined,
     };
     let mut marks = no_marks(alloc, names.len())?;
     let mut owners = List::new(alloc);

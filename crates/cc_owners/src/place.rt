@@ -1,13 +1,14 @@
 //! The member of a row's name in classes that are given by their numbers.
 
 ghost use Rattle.std.specs.Prelude.{◌≡◌, ◌<◌, ℕ, List, length, slice_get, Some, Contains, MatchOption};
+ghost use Rattle.std.specs.Bool.{OnTrue};
 ghost use Rattle.cc_meaning_resolution.specs.Searches.{NoneOf};
 ghost use Rattle.cc_meaning_linking.specs.Outlines.{AreNumbersOf};
 ghost use Rattle.cc_owners.specs.Known.{IsKnown, Has, IsFound};
 ghost use Rattle.cc_owners.specs.Members.{member_of};
 ghost use Rattle.cc_owners.specs.Places.{place_of};
 
-use crate::index::find;
+use crate::index::{find, is_defined};
 use crate::linked::Linked;
 use cc_meaning::lists::ClassIx;
 
@@ -47,4 +48,12 @@ pub(crate) fn first_among(linked: &Linked<'_>, classes: &[ClassIx], row: u32) ->
         }
     }
     None
+}
+
+/// Whether no class of the file defines a member of a row's name.
+pub(crate) fn is_nowhere(linked: &Linked<'_>, row: u32) -> bool
+    requires { IsKnown linked.now }
+    ensures { OnTrue result ((class : List ℕ) → ¬ Has linked.now row class) }
+{
+    !is_defined(linked.ids, linked.table, linked.defined, row)
 }

@@ -1,8 +1,11 @@
 use Rattle.std.proofs.Common.{inl, get_or, subst, ◌∙◌, arith}
 use Rattle.std.proofs.lemmas.List.Elements.{Contains-get_or}
+use Rattle.std.proofs.lemmas.Bool.{OnTrue_at}
+use Rattle.cc_owners.specs.Known.{Has}
+use Rattle.cc_owners.proofs.Placing.{none_of_all}
 use Rattle.cc_owners.specs.Fields.{IsFoundAt}
 use Rattle.cc_owners.proofs.Chains.{only_both, entered_fresh}
-use Rattle.cc_owners.proofs.FieldChains.{cleared_none, cleared_more, cleared_all, found_field, entered_at}
+use Rattle.cc_owners.proofs.FieldChains.{have_lists, cleared_none, cleared_more, cleared_all, found_field, entered_at}
 use Rattle.cc_owners.proofs.Lists.{number_at, as_many}
 use Rattle.cc_owners.proofs.Searching.{names_of}
 use Rattle.cc_owners.proofs.field_chain.first_in_field_order.Goals as goal
@@ -48,3 +51,10 @@ pub returns-clause-found : goal.returns-clause-found
 returns-clause-found c = λ order are.
     let many = as_many c.args.linked.now.names.now order c.args.classes.now are in
     cleared_all c.args.linked.now c.args.row c.args.search order c.loop-class.class-index (omega (arith, many, c.loop-class-test.false)) (c.loop-class.invariant.cleared order are)
+
+pub returns-then-is_nowhere-clause-found : goal.returns-then-is_nowhere-clause-found
+returns-then-is_nowhere-clause-found c = λ order are.
+    let linked = c.args.linked.now in
+    let lacks = OnTrue_at c.if-is_nowhere.true c.is_nowhere.ensures in
+    let listed = have_lists c.interfaces_have_lists.ensures linked.ids.now linked.classes.now c.requires.known.sound order in
+    (listed.0, listed.1, none_of_all (Has linked c.args.row) lacks listed.0)

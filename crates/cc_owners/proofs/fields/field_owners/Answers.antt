@@ -41,3 +41,14 @@ returns c =
     let end = rw c.as_slice-field-items.ensures at c.loop-row.auto.row-end in
     let whole : c.loop-row.row ≡ length c.args.ids.now.fields = omega (arith, past, end) in
     are_owners c.args.ids.now c.args.classes.now c.args.names.now c.loop-row.row c.loop-row.owners whole c.loop-row.invariant.owns
+
+pub field_owner-requires-clause-known : goal.field_owner-requires-clause-known
+field_owner-requires-clause-known c =
+    let entries = rw c.as_slice.ensures at c.in_ok-entries.ensures in
+    record {
+      sound = c.requires.sound;
+      names = c.requires.names;
+      outlines = c.requires.outlines;
+      entries = entries;
+      defined = c.in_ok-defined.ensures c.args.classes.now entries;
+    }
