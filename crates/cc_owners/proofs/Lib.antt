@@ -1,0 +1,14 @@
+pub mod Lists
+pub mod Above
+pub mod Positions
+pub mod Indexing
+pub mod Placing
+pub mod Climbing
+pub mod Searching
+pub mod Listings
+pub mod Reversing
+pub mod Inheriting
+pub mod Chains
+pub mod MethodOwning
+pub mod FieldChains
+pub mod FieldOwning

@@ -1,0 +1,10 @@
+use Rattle.std.proofs.Common.{rules}
+use Rattle.std.proofs.lemmas.Iterator.{YieldsList-from_slice, YieldsList-from_map, items_from_collect}
+use Rattle.std.proofs.lemmas.Iterator.Consumers.{YieldsList-at}
+use Rattle.cc_meaning.specs.declared.file.RawField.{RawField}
+use Rattle.cc_owners.proofs.index.field_rows.Goals as goal
+
+pub returns : goal.returns
+returns c =
+    items_from_collect c.collect.result c.collect.ensures.ran
+    (YieldsList-from_map _ (λ (field : RawField). field.row) (YieldsList-at c.map.ensures.source (YieldsList-from_slice c.args.fields.now cc)) c.map.ensures.closure (λ x r q k. (search rules, search rules)))

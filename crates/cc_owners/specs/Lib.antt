@@ -1,0 +1,8 @@
+pub mod Members
+pub mod Places
+pub mod Index
+pub mod Known
+pub mod Entered
+pub mod Listings
+pub mod Beyond
+pub mod Fields
