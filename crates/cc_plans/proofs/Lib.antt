@@ -1,0 +1,9 @@
+pub mod NamedPieces
+pub mod Listing
+pub mod Ordered
+pub mod Defined
+pub mod Outlined
+pub mod Adding
+pub mod UsedRows
+pub mod MethodPlanning
+pub mod Renamed
