@@ -1,8 +1,9 @@
 -- Members that are added to others.
-use Rattle.std.proofs.Common.{◌≡◌, ◌⊎◌, ◌↔◌, inl, inr, ℕ, ◌+◌, ◌<◌, ◌≤◌, List, [], ◌∷◌, ◌++◌, map, refl, sym, ap, subst, ◌∙◌, arith}
+use Rattle.std.proofs.Common.{◌≡◌, ◌⊎◌, ◌↔◌, inl, inr, ℕ, ◌+◌, ◌<◌, ◌≤◌, List, [], ◌∷◌, ◌++◌, length, get_or, take, Option, refl, sym, ap, subst, ◌∙◌, append_assoc, arith}
 use Rattle.std.specs.Prelude.{Contains}
-use Rattle.std.proofs.lemmas.List.Elements.{Contains-push_cases, Contains-push, Contains-append_left}
-use Rattle.std.proofs.lemmas.List.{map_push}
+use Rattle.std.proofs.lemmas.List.Elements.{Contains-push_cases, Contains-push, Contains-append_left, filter_map-append}
+use Rattle.std.proofs.lemmas.List.{take_more}
+use Rattle.std.specs.List.{filter_map, cons_option}
 use Rattle.cc_plans.specs.Candidates.{IsBelow}
 
 -- one of the first n of these is one of the first n + 1
@@ -93,3 +94,14 @@ both_added {A} first second old between all one two x = (there, here)
     here (inl was) = (two x).1 (inl ((one x).1 (inl was)))
     here (inr (inl is)) = (two x).1 (inl ((one x).1 (inr is)))
     here (inr (inr is)) = (two x).1 (inr is)
+
+-- ---- what a use makes
+
+-- what the next one makes is added
+pub made_more : {A B : Type 0} (f : A → Option B) (old all : List B) (xs : List A) (i : ℕ) (d : A) (o : Option B) → all ≡ old ++ filter_map f (take i xs) → i < length xs → o ≡ f (get_or xs i d) →
+    all ++ cons_option o [] ≡ old ++ filter_map f (take (i + 1) xs)
+made_more f old all xs i d o so within is =
+    let more : filter_map f (take (i + 1) xs) ≡ filter_map f (take i xs) ++ cons_option (f (get_or xs i d)) [] = ap (filter_map f) (take_more xs i d within) ∙ filter_map-append f (take i xs) (get_or xs i d ∷ []) in
+    ap (λ made. made ++ cons_option o []) so
+    ∙ (append_assoc old (filter_map f (take i xs)) (cons_option o [])
+    ∙ (ap (λ made. old ++ (filter_map f (take i xs) ++ cons_option made [])) is ∙ ap (λ made. old ++ made) (sym more)))

@@ -118,7 +118,13 @@ method_defined_at ids classes name class place raw sound members there =
     none j other less at same =
         let d = definition_from ids classes name class members in
         sound.distinct d.number (IsDuplicate.of_method d.there (record {
-          earlier = j; later = place; order = less; first = other; first_there = at; second = raw; second_there = there;
+          earlier = j;
+          later = place;
+          order = less;
+          first = other;
+          first_there = at;
+          second = raw;
+          second_there = there;
           same = same_bytes (method_member ids other.row) (method_member ids raw.row) same;
         }))
 

@@ -2,7 +2,7 @@
 use Rattle.std.proofs.Common.{◌≡◌, ◌≢◌, ◌⊎◌, ◌↔◌, inl, inr, ℕ, zero, suc, ◌+◌, ◌<◌, ◌≤◌, List, [], ◌∷◌, ◌++◌, length, map, get_or, Option, Some, None, slice_get, refl, sym, ap, subst, ◌∙◌, arith}
 use Rattle.std.specs.Prelude.{Contains}
 use Rattle.std.specs.List.{flat_map, filter_map, cons_option}
-use Rattle.std.proofs.lemmas.List.Elements.{Contains-append_left, Contains-append_right, Contains-get_or}
+use Rattle.std.proofs.lemmas.List.Elements.{Contains-append_left, Contains-append_right, Contains-append_cases, filter_map-append}
 use Rattle.std.proofs.lemmas.Option.{slice_get_within, slice_get_cases, get_or_from_slice_get}
 use Rattle.cc_meaning.specs.declared.file.Ids.{Ids}
 use Rattle.cc_meaning.specs.declared.file.RawClass.{RawClass}
@@ -22,6 +22,7 @@ use Rattle.cc_meaning_program.specs.References.{reference_of, named_method, name
 use Rattle.cc_meaning_resolution.specs.Declared.{members_of, method_defined, method_listed, built_in_member, built_in_methods_of}
 use Rattle.cc_meaning_resolution.specs.Laws.{OneMethodOwner}
 use Rattle.cc_meaning_resolution.specs.Members.{BelongsMethod}
+use Rattle.cc_meaning_resolution.specs.Owners.{MethodOwner as OwnsMethod}
 use Rattle.cc_meaning_resolution.specs.Naming.{ClassesAre, RowNamesMethod, NamesMethod}
 use Rattle.cc_meaning_resolution.specs.Resolved.{whole_name}
 use Rattle.cc_meaning_resolution.specs.Searches.{First}
@@ -66,13 +67,14 @@ in_filter_map {A} {B} f (z ∷ xs) x y (suc k, within, is) makes = behind (f z) 
     behind None there = there
     behind (Some w) there = contains_tail w (filter_map f xs) y there
 
-pub filter_map_more : {A B : Type 0} (f : A → Option B) (xs : List A) (x : A) → filter_map f (xs ++ x ∷ []) ≡ filter_map f xs ++ cons_option (f x) []
-filter_map_more f [] x = refl
-filter_map_more {A} {B} f (z ∷ xs) x = ap (cons_option (f z)) (filter_map_more f xs x) ∙ behind (f z)
+pub filter_map_from : {A B : Type 0} (f : A → Option B) (xs : List A) (y : B) → Contains (filter_map f xs) y → (x : A) × (f x ≡ Some y)
+filter_map_from f [] y (k, within, is) = absurd (omega arith)
+filter_map_from {A} {B} f (z ∷ xs) y there = from (f z) refl (filter_map_from f xs y) there
   where
-    behind : (o : Option B) → cons_option o (filter_map f xs ++ cons_option (f x) []) ≡ cons_option o (filter_map f xs) ++ cons_option (f x) []
-    behind None = refl
-    behind (Some w) = refl
+    from : (o : Option B) → f z ≡ o → (Contains (filter_map f xs) y → (x : A) × (f x ≡ Some y)) → Contains (cons_option o (filter_map f xs)) y → (x : A) × (f x ≡ Some y)
+    from None is rests here = rests here
+    from (Some w) is rests (zero, within, same) = (z, is ∙ ap Some same)
+    from (Some w) is rests (suc k, within, same) = rests (k, omega arith, same)
 
 pub in_flat_map : {A B : Type 0} (f : A → List B) (xs : List A) (x : A) (y : B) → Contains xs x → Contains (f x) y → Contains (flat_map f xs) y
 in_flat_map f [] x y (k, within, is) there = absurd (omega arith)
@@ -97,6 +99,10 @@ first_of_two {A} {is_so} (y ∷ xs) ys x (First.later not rest) = from (first_of
     from (inl there) = inl (contains_tail y xs x there)
     from (inr (before, first)) = inr (none before, first)
 
+first_cases : {A : Type 0} {is_so : A → Type 0} (w : A) (ws : List A) (y : A) → First is_so (w ∷ ws) y → ((w ≡ y) × is_so y) ⊎ ((¬ is_so w) × First is_so ws y)
+first_cases _ _ y (First.here so) = inl (refl, so)
+first_cases _ _ y (First.later not rest) = inr (not, rest)
+
 -- the first of what things make is made by the first thing that makes such
 pub record Makes {A B : Type 0} (f : A → Option B) (is_so : B → Type 0) (x : A) : Type 0 where
   pub made : B
@@ -111,11 +117,11 @@ first_maker {A} {B} {is_so} f (z ∷ xs) y first = from (f z) refl (first_maker 
     from None is rests =
         let (x, rest, makes) = rests (subst (λ (o : Option B). First is_so (cons_option o (filter_map f xs)) y) is first) in
         (x, First.later (λ (m : Makes f is_so z). absurd (let e : None ≡ Some m.made = sym is ∙ m.makes in cc)) rest, makes)
-    from (Some w) is rests = split (subst (λ (o : Option B). First is_so (cons_option o (filter_map f xs)) y) is first)
+    from (Some w) is rests = split (first_cases w (filter_map f xs) y (subst (λ (o : Option B). First is_so (cons_option o (filter_map f xs)) y) is first))
       where
-        split : First is_so (w ∷ filter_map f xs) y → (x : A) × First (Makes f is_so) (z ∷ xs) x × (f x ≡ Some y)
-        split (First.here so) = (z, First.here (record { made = w; makes = is; so = so }), is)
-        split (First.later not rest) =
+        split : ((w ≡ y) × is_so y) ⊎ ((¬ is_so w) × First is_so (filter_map f xs) y) → (x : A) × First (Makes f is_so) (z ∷ xs) x × (f x ≡ Some y)
+        split (inl (same, so)) = (z, First.here (record { made = y; makes = is ∙ ap Some same; so = so }), is ∙ ap Some same)
+        split (inr (not, rest)) =
             let (x, on, makes) = rests rest in
             (x, First.later (λ (m : Makes f is_so z). not (let e : m.made ≡ w = some_is m.made w (sym m.makes ∙ is) in subst is_so e m.so)) on, makes)
 
@@ -129,8 +135,7 @@ first_as _ x (First.later {x = y} {xs = tail} not rest) here part = First.later 
 module _ (ids : Ids) (classes : List RawClass) (names : List (List ℕ)) (owners : List MethodOwner) (uses : List MethodUse) (fields : List ℕ)
     (fit : FitTables ids) (sound : AreSound ids classes) (class_names : AreClassNames ids names) (are_owners : AreMethodOwners ids classes names owners) (are_uses : AreUses classes uses fields)
     (one_owner : OneMethodOwner) (reading : OneReading) where
-
-  plan_name : MethodPlan → List ℕ
+  abbrev plan_name : MethodPlan → List ℕ
   plan_name = method_plan_name ids classes names
 
   -- a class of the program has a number
@@ -182,8 +187,8 @@ module _ (ids : Ids) (classes : List RawClass) (names : List (List ℕ)) (owners
   same_owner_of row this that member other one two =
       let stated : one.stated ≡ two.stated = some_is one.stated two.stated (sym one.there ∙ two.there) in
       let members : member ≡ other = sym one.within ∙ two.within in
-      let moved = subst (λ (n : List ℕ). MethodOwner.MethodOwner ids classes (type_name ids one.stated.class) n this) members one.owned in
-      (one_owner ids classes (type_name ids two.stated.class) other this that (subst (λ row_stated. MethodOwner.MethodOwner ids classes (type_name ids row_stated.class) other this) stated moved) two.owned, members)
+      let moved = subst (λ (n : List ℕ). OwnsMethod ids classes (type_name ids one.stated.class) n this) members one.owned in
+      (one_owner ids classes (type_name ids two.stated.class) other this that (subst (λ row_stated. OwnsMethod ids classes (type_name ids row_stated.class) other this) stated moved) two.owned, members)
 
   -- a use of the program's that names a method of no class of its own
   outside_source : (used : MethodUse) (plan : MethodPlan) → outside_plan (slice_get owners used.row) used ≡ Some plan →
@@ -227,5 +232,134 @@ module _ (ids : Ids) (classes : List RawClass) (names : List (List ℕ)) (owners
         cases (inl here) = own_there plan ((owned plan).0 here)
         cases (inr here) =
             let (used, made) = outside_from plan here in
-            let (name, at, rest) = outside_source used plan made in
+            let (name, at, source, named, undefined, unlisted) = outside_source used plan made in
             slice_get_within names plan.owner name at
+
+    own_in_all : (plan : MethodPlan) → IsOwnBelow ids classes names (length names) plan → Contains all plan
+    own_in_all plan below = subst (λ plans. Contains plans plan) (sym are_all) (Contains-append_left own (outside_plans owners uses) plan ((owned plan).1 below))
+
+    outside_name : (plan : MethodPlan) (used : MethodUse) (name : List ℕ) → slice_get names plan.owner ≡ Some name → plan.source ≡ from.Outside used → plan_name plan ≡ whole_name name (method_member ids used.row)
+    unfolding method_plan_name source_member
+    outside_name plan used name at source =
+        ap (λ (n : List ℕ). whole_name n (source_member ids classes n plan.source)) (name_there names plan.owner name at) ∙ ap (λ (s : MethodSource). whole_name name (source_member ids classes name s)) source
+
+    -- ---- where each comes from
+
+    first_use : (used : MethodUse) (plan : MethodPlan) (name : List ℕ) → First (Makes (λ (other : MethodUse). outside_plan (slice_get owners other.row) other) (λ (other : MethodPlan). plan_name other ≡ plan_name plan)) uses used →
+        slice_get names plan.owner ≡ Some name → plan.source ≡ from.Outside used → RowNamesMethod ids classes used.row name (method_member ids used.row) →
+        method_defined ids classes name (method_member ids used.row) ≡ None → method_listed ids name (method_member ids used.row) ≡ None →
+        First (λ (other : MethodUse). RowNamesMethod ids classes other.row name (method_member ids used.row)) uses used
+    unfolding outside_plan
+    first_use used plan name first at source named undefined unlisted = first_as uses used first named part
+      where
+        member : List ℕ
+        member = method_member ids used.row
+
+        by_owner : (other : MethodUse) (o : MethodOwner) → RowNamesMethod ids classes other.row name member → slice_get owners other.row ≡ Some o → IsMethodOwner ids classes names other.row o →
+            Makes (λ (using : MethodUse). outside_plan (slice_get owners using.row) using) (λ (made : MethodPlan). plan_name made ≡ plan_name plan) other
+        by_owner other _ also there (IsMethodOwner.file {name = n} {raw = raw} here this defined placed) =
+            let (names_same, members_same) = same_owner_of other.row n name (method_member ids other.row) member this also in
+            absurd (let e : None ≡ Some raw = sym undefined ∙ (sym (ap (λ (m : List ℕ). method_defined ids classes name m) members_same) ∙ (sym (ap (λ (k : List ℕ). method_defined ids classes k (method_member ids other.row)) names_same) ∙ defined)) in cc)
+        by_owner other _ also there (IsMethodOwner.built_in {name = n} {listed = listed} here this none is at_place) =
+            let (names_same, members_same) = same_owner_of other.row n name (method_member ids other.row) member this also in
+            absurd (let e : None ≡ Some listed = sym unlisted ∙ (sym (ap (λ (m : List ℕ). method_listed ids name m) members_same) ∙ (sym (ap (λ (k : List ℕ). method_listed ids k (method_member ids other.row)) names_same) ∙ is)) in cc)
+        by_owner other _ also there (IsMethodOwner.outside {class = class} {name = n} here this none unlisted_too) =
+            let (names_same, members_same) = same_owner_of other.row n name (method_member ids other.row) member this also in
+            let made : MethodPlan = record { owner = class; source = from.Outside other } in
+            record {
+              made = made;
+              makes = ap (λ (o : Option MethodOwner). outside_plan o other) there;
+              so = outside_name made other n here refl ∙ (ap (λ (k : List ℕ). whole_name k (method_member ids other.row)) names_same ∙ (ap (whole_name name) members_same ∙ sym (outside_name plan used name at source)));
+            }
+
+        part : (other : MethodUse) → RowNamesMethod ids classes other.row name member → Makes (λ (using : MethodUse). outside_plan (slice_get owners using.row) using) (λ (made : MethodPlan). plan_name made ≡ plan_name plan) other
+        part other also = let (o, there, is) = owner_of other.row name member also in by_owner other o also there is
+
+    each_source : (plan : MethodPlan) → First (λ (other : MethodPlan). plan_name other ≡ plan_name plan) all plan → IsSource ids classes uses (name_at names plan.owner) plan.source
+    unfolding outside_plans
+    each_source plan first = cases (first_of_two own (outside_plans owners uses) plan (subst (λ plans. First (λ (other : MethodPlan). plan_name other ≡ plan_name plan) plans plan) are_all first))
+      where
+        cases : Contains own plan ⊎ (((other : MethodPlan) → Contains own other → ¬ (plan_name other ≡ plan_name plan)) × First (λ (other : MethodPlan). plan_name other ≡ plan_name plan) (outside_plans owners uses) plan) →
+            IsSource ids classes uses (name_at names plan.owner) plan.source
+        cases (inl here) = let (owner, less, is) = (owned plan).0 here in (own_source owner plan is).1
+        cases (inr (none, behind)) =
+            let (used, made_first, made) = first_maker (λ (used : MethodUse). outside_plan (slice_get owners used.row) used) uses plan behind in
+            let (name, at, source, named, undefined, unlisted) = outside_source used plan made in
+            let is = IsSource.outside (first_use used plan name made_first at source named undefined unlisted) undefined unlisted in
+            subst (λ (n : List ℕ). IsSource ids classes uses n plan.source) (sym (name_there names plan.owner name at)) (subst (λ (s : MethodSource). IsSource ids classes uses name s) (sym source) is)
+
+    -- ---- all are there
+
+    abbrev IsThere : List ℕ → List ℕ → Type 0
+    IsThere owner member = (plan : MethodPlan) × Contains all plan × (plan_name plan ≡ whole_name owner member)
+
+    defined_there : (owner member : List ℕ) (raw : RawMethod) → method_defined ids classes owner member ≡ Some raw → IsThere owner member
+    unfolding method_count file_plan method_plan_name source_member raw_method_member
+    defined_there owner member raw e =
+        let at = method_at ids classes owner member raw e in
+        let d = definition_from ids classes owner at.class at.members in
+        let (number, less, there) = number_of owner (defined_is_class ids d.number owner fit d.defines) in
+        let same = name_there names number owner there in
+        let count : method_count (members_of ids classes (name_at names number)) ≡ length at.class.methods = ap (λ (n : List ℕ). method_count (members_of ids classes n)) same ∙ ap method_count at.members in
+        let within : at.place < method_count (members_of ids classes (name_at names number)) = let inside = slice_get_within at.class.methods at.place raw at.there in omega (arith, inside, count) in
+        let placed = method_placed_at ids classes owner at.class at.place at.members ∙ at.there in (
+          file_plan number at.place,
+          own_in_all (file_plan number at.place) (number, less, inl (at.place, within, refl)),
+          ap (λ (n : List ℕ). whole_name n (raw_method_member ids (method_placed ids classes n at.place))) same ∙ (ap (λ (o : Option RawMethod). whole_name owner (raw_method_member ids o)) placed ∙ ap (whole_name owner) at.named),
+        )
+
+    listed_there : (owner member : List ℕ) (listed : BuiltInMethod) → IsClassName ids owner → method_listed ids owner member ≡ Some listed → IsThere owner member
+    unfolding built_in_plan method_plan_name source_member listed_member
+    listed_there owner member listed is e =
+        let (place, at, named) = listed_at_place ids owner member listed e in
+        let (number, less, there) = number_of owner is in
+        let same = name_there names number owner there in
+        let count : length (built_in_methods_of ids (name_at names number)) ≡ length (built_in_methods_of ids owner) = ap (λ (n : List ℕ). length (built_in_methods_of ids n)) same in
+        let within : place < length (built_in_methods_of ids (name_at names number)) = let inside = slice_get_within (built_in_methods_of ids owner) place listed at in omega (arith, inside, count) in (
+          built_in_plan number place,
+          own_in_all (built_in_plan number place) (number, less, inr (place, within, refl)),
+          ap (λ (n : List ℕ). whole_name n (listed_member (slice_get (built_in_methods_of ids n) place))) same ∙ (ap (λ (o : Option BuiltInMethod). whole_name owner (listed_member o)) at ∙ ap (whole_name owner) named),
+        )
+
+    used_there : (used : MethodUse) (owner member : List ℕ) → Contains uses used → RowNamesMethod ids classes used.row owner member → IsThere owner member
+    unfolding outside_plan outside_plans
+    used_there used owner member in_uses named = let (o, there, is) = owner_of used.row owner member named in by_owner o there is
+      where
+        by_owner : (o : MethodOwner) → slice_get owners used.row ≡ Some o → IsMethodOwner ids classes names used.row o → IsThere owner member
+        by_owner _ there (IsMethodOwner.file {name = n} {raw = raw} here this defined placed) =
+            let (names_same, members_same) = same_owner_of used.row n owner (method_member ids used.row) member this named in
+            defined_there owner member raw (subst (λ (m : List ℕ). method_defined ids classes owner m ≡ Some raw) members_same (subst (λ (k : List ℕ). method_defined ids classes k (method_member ids used.row) ≡ Some raw) names_same defined))
+        by_owner _ there (IsMethodOwner.built_in {class = class} {name = n} {listed = listed} here this none is at_place) =
+            let (names_same, members_same) = same_owner_of used.row n owner (method_member ids used.row) member this named in
+            let class_is : IsClassName ids owner = subst (IsClassName ids) names_same ((class_names.are n).0 (contains_at names class n here)) in
+            listed_there owner member listed class_is (subst (λ (m : List ℕ). method_listed ids owner m ≡ Some listed) members_same (subst (λ (k : List ℕ). method_listed ids k (method_member ids used.row) ≡ Some listed) names_same is))
+        by_owner _ there (IsMethodOwner.outside {class = class} {name = n} here this none unlisted) =
+            let (names_same, members_same) = same_owner_of used.row n owner (method_member ids used.row) member this named in
+            let made : MethodPlan = record { owner = class; source = from.Outside used } in
+            let makes : outside_plan (slice_get owners used.row) used ≡ Some made = ap (λ (o : Option MethodOwner). outside_plan o used) there in
+            let among = in_filter_map (λ (using : MethodUse). outside_plan (slice_get owners using.row) using) uses used made in_uses makes in (
+              made,
+              subst (λ plans. Contains plans made) (sym are_all) (Contains-append_right own (outside_plans owners uses) made among),
+              outside_name made used n here refl ∙ (ap (λ (k : List ℕ). whole_name k (method_member ids used.row)) names_same ∙ ap (whole_name owner) members_same),
+            )
+
+    belongs_there : (owner member : List ℕ) → BelongsMethod ids classes owner member → IsThere owner member
+    unfolding method_uses_of
+    belongs_there owner member (BelongsMethod.defined {raw = raw} e) = defined_there owner member raw e
+    belongs_there owner member (BelongsMethod.built_in {listed = listed} is e) = listed_there owner member listed is e
+    belongs_there owner member (BelongsMethod.named {all = placed_all} {placed = placed} are here names_it) =
+        let (used, in_use, same_row) = method_used placed.insn names_it.row names_it.refers in
+        let one : placed_all ≡ are_uses.instructions = classes_once reading classes placed_all are_uses.instructions are are_uses.are in
+        let among = in_flat_map (λ (p : Placed). method_use_of p.insn) are_uses.instructions placed used (subst (λ (ps : List Placed). Contains ps placed) one here) in_use in
+        used_there used owner member (subst (λ (us : List MethodUse). Contains us used) (sym (uses_are are_uses.of_methods)) among) (subst (λ (row : ℕ). RowNamesMethod ids classes row owner member) (sym same_row) names_it.names)
+      where
+        uses_are : uses ≡ method_uses_of are_uses.instructions → uses ≡ flat_map (λ (p : Placed). method_use_of p.insn) are_uses.instructions
+        uses_are e = e
+
+    pub are_plans : (plans : List MethodPlan) → AreInOrder plan_name all plans → AreFirst plan_name all plans → AreMethodPlans ids classes names uses plans
+    are_plans plans order first = record {
+      rise = order.rise;
+      owned = λ number plan there. (name_at names plan.owner, there_at names plan.owner (all_there plan (order.among plan (contains_at plans number plan there))));
+      each = λ number plan there. each_source plan (first plan (contains_at plans number plan there));
+      all = λ owner member belongs. let (plan, there, is) = belongs_there owner member belongs in subst (Contains (map plan_name plans)) is (order.named plan there);
+    }

@@ -56,11 +56,7 @@ const PRINT_STREAM: &[&[u8]] = &[
 
 const OBJECT: &[&[u8]] = &[b"<init>()V", b"equals(Ljava/lang/Object;)Z"];
 
-const STRING: &[&[u8]] = &[
-    b"charAt(I)C",
-    b"equals(Ljava/lang/Object;)Z",
-    b"length()I",
-];
+const STRING: &[&[u8]] = &[b"charAt(I)C", b"equals(Ljava/lang/Object;)Z", b"length()I"];
 
 const STRING_BUILDER: &[&[u8]] = &[
     b"<init>()V",

@@ -8,4 +8,3 @@ mod order;
 mod tables;
 
 pub use methods::method_plans;
-

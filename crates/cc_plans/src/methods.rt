@@ -29,8 +29,8 @@ use cc_meaning_linking::{
     MethodOwner, MethodOwners, MethodPlan, MethodPlans, MethodSource, MethodUse, MethodUses,
     Outlines,
 };
-use cc_meaning_resolution::one_method_owner;
 use cc_meaning_program::one_reading;
+use cc_meaning_resolution::one_method_owner;
 use cc_names::Naming;
 use std::alloc::{AllocError, Global};
 use std::cmp::Ordering;

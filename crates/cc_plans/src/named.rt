@@ -138,7 +138,11 @@ impl Pieces for Pair<'_> {
 
     #[tactic(auto, using(crate::proofs::NamedPieces::same_owner))]
     fn same_front(&self, one: u32, other: u32) -> usize {
-        if self.side(one).owner == self.side(other).owner { 2 } else { 0 }
+        if self.side(one).owner == self.side(other).owner {
+            2
+        } else {
+            0
+        }
     }
 }
 

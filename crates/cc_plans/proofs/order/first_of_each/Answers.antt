@@ -25,8 +25,10 @@ loop-item-preserved g c =
           rw (w.kept-is, w.in_ok-push.ensures.ok) more
       | else-is_behind_last w ↦
           let other = rw (w.if-is_behind_last.false, c.as_slice.ensures) at c.is_behind_last.ensures.other in
-          let more = one_taken (λ given. AreInOrder name given kept × AreFirst name given kept) sorted c.loop-item.item-index item c.loop-item-test.true c.item-item.is
-          (one_left_out name given kept item was.0 other
-          (sorted_before name sorted c.requires c.loop-item.item-index item c.loop-item-test.true c.item-item.is), first_left_out name given kept item was.1) in
+          let more = one_taken (λ given. AreInOrder name given kept × AreFirst name given kept) sorted c.loop-item.item-index item c.loop-item-test.true c.item-item.is (
+            one_left_out name given kept item was.0 other
+                (sorted_before name sorted c.requires c.loop-item.item-index item c.loop-item-test.true c.item-item.is),
+            first_left_out name given kept item was.1,
+          ) in
           rw w.kept-is more
     ]
