@@ -7,3 +7,5 @@ pub mod Adding
 pub mod UsedRows
 pub mod MethodPlanning
 pub mod Renamed
+pub mod NamedFound
+pub mod MethodLinking

@@ -61,3 +61,9 @@ pub record AreCandidates (tables : Tables) (plans : List MethodPlan) (candidates
   pub are : map (λ (candidate : Candidate). candidate.plan) candidates ≡ plans
   pub named : (candidate : Candidate) → Contains candidates candidate →
       named_text tables.names.ids.now tables.names.classes.now tables.names.listings.now.members candidate.named ≡ method_plan_name tables.names.ids.now tables.classes.now tables.names.classes.now candidate.plan
+
+-- the class of what a row of methods names
+unfoldable pub owner_class : MethodOwner → ℕ
+owner_class (method.File class place) = class
+owner_class (method.BuiltIn class place) = class
+owner_class (method.Outside class) = class

@@ -2,9 +2,11 @@
 #![tactic(auto)]
 
 mod built_in;
+mod links;
 mod methods;
 mod named;
 mod order;
 mod tables;
 
+pub use links::method_links;
 pub use methods::method_plans;

@@ -1,13 +1,15 @@
 //! Whole names of members, compared without building them.
 
-ghost use Rattle.std.specs.Prelude.{◌≡◌, ◌^◌, ◌<◌, ◌+◌, slice_get, OnSome};
+ghost use Rattle.std.specs.Prelude.{◌≡◌, ◌^◌, ◌<◌, ◌+◌, Some, length, map, slice_get, Contains, OnSome, MatchOption};
 ghost use Rattle.std.specs.Option.{option_copied};
 ghost use Rattle.std.specs.Cmp.Lexicographic.{slice_cmp};
 ghost use Rattle.std.specs.Ordering.{nat_cmp};
+ghost use Rattle.cc_meaning.specs.Order.{IsRising};
 ghost use Rattle.cc_meaning_linking.specs.Plans.{name_at};
 ghost use Rattle.cc_plans.specs.Named.{method_pieces, field_pieces, member_pieces, named_pieces, named_text, side};
 
 use crate::built_in::Listings;
+use cc_list::List;
 use cc_meaning::file::Ids;
 use cc_meaning::lists::{ClassIx, Texts};
 use cc_names::{Pieces, compare, prototype_piece, text, type_name};
@@ -152,4 +154,21 @@ pub fn compare_named(names: &Names, one: Named, other: Named) -> Ordering
         (named_text names.now.ids.now names.now.classes.now names.now.listings.now.members other) }
 {
     compare(&Pair { names, one, other }, 0, 1)
+}
+
+/// The number of a member among members that rise by their whole names, or `None` where it isn't among them.
+pub fn find_named(names: &Names, among: &List<Named>, wanted: Named) -> Option<u32>
+    requires few { length among.now < 2 ^ 32 }
+    requires rise { IsRising (map (named_text names.now.ids.now names.now.classes.now names.now.listings.now.members) among.now) }
+    ensures { MatchOption result
+        (Contains (map (named_text names.now.ids.now names.now.classes.now names.now.listings.now.members) among.now) (named_text names.now.ids.now names.now.classes.now names.now.listings.now.members wanted) → ⊥)
+        (λ number. slice_get (map (named_text names.now.ids.now names.now.classes.now names.now.listings.now.members) among.now) number ≡ Some (named_text names.now.ids.now names.now.classes.now names.now.listings.now.members wanted)) }
+{
+    match among
+        .as_slice()
+        .binary_search_by(|other| compare_named(names, *other, wanted))
+    {
+        Ok(place) => Some(place as u32),
+        Err(_) => None,
+    }
 }

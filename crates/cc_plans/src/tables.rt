@@ -1,6 +1,6 @@
 //! What a file and the built-in classes say of a program's classes and their members.
 
-ghost use Rattle.std.specs.Prelude.{◌≡◌, ◌<◌, length, map, slice_get, IfOk};
+ghost use Rattle.std.specs.Prelude.{◌≡◌, ◌<◌, ◌^◌, length, map, slice_get, IfOk};
 ghost use Rattle.std.specs.Option.{option_copied};
 ghost use Rattle.cc_meaning_resolution.specs.Declared.{members_of, built_in_member, built_in_methods_of};
 ghost use Rattle.cc_meaning_linking.specs.Plans.{name_at};
@@ -50,7 +50,8 @@ impl Tables<'_> {
 
 /// A count in 32 bits. There is no memory for more.
 pub fn count_of(count: usize) -> Result<u32, AllocError>
-    ensures { IfOk result (λ same. same ≡ count) }
+    ensures same { IfOk result (λ same. same ≡ count) }
+    ensures few { IfOk result (λ same. same < 2 ^ 32) }
 {
     match u32::try_from(count) {
         Ok(count) => Ok(count),

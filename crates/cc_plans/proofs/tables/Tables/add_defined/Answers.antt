@@ -14,5 +14,5 @@ loop-place-preserved c =
 pub returns : goal.returns
 returns c =
     let end : c.loop-place.place ≡ c.in_ok-place-end.place-end = omega (arith, c.loop-place-test.false, c.loop-place.auto.place-end) in
-    let count = end ∙ c.in_ok-place-end.ensures ∙ c.method_count.ensures in
+    let count = end ∙ c.in_ok-place-end.ensures.same ∙ c.method_count.ensures in
     subst (λ n. (plan : MethodPlan) → Contains c.loop-place.all plan ↔ (Contains c.args.all.now plan ⊎ IsBelow (file_plan c.args.owner) n plan)) count c.loop-place.invariant

@@ -18,5 +18,5 @@ pub returns : goal.returns
 returns c =
     let end : c.loop-place.place ≡ c.in_ok-place-end.place-end = omega (arith, c.loop-place-test.false, c.loop-place.auto.place-end) in
     let listed = built_in_methods_of c.args.self.now.names.ids.now (name_at c.args.self.now.names.classes.now c.args.owner) in
-    let count = end ∙ c.in_ok-place-end.ensures ∙ c.count.ensures ∙ ap length c.table-table.ensures ∙ length-map listed built_in_member in
+    let count = end ∙ c.in_ok-place-end.ensures.same ∙ c.count.ensures ∙ ap length c.table-table.ensures ∙ length-map listed built_in_member in
     subst (λ n. (plan : MethodPlan) → Contains c.loop-place.all plan ↔ (Contains c.args.all.now plan ⊎ IsBelow (built_in_plan c.args.owner) n plan)) count c.loop-place.invariant
