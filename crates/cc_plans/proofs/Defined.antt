@@ -13,7 +13,7 @@ use Rattle.cc_meaning.specs.declared.file.RawField.{RawField}
 use Rattle.cc_meaning.specs.declared.file.RawMethod.{RawMethod}
 use Rattle.cc_meaning.specs.declared.program.ClassKind.{ClassKind}
 use Rattle.cc_meaning.specs.declared.program.ClassKind.TheVariants as kind
-use Rattle.cc_meaning.specs.BuiltIn.{is_built_in, object_name, string_name, string_builder_name, system_name, print_stream_name, throwable_name, exception_name, error_name, runtime_exception_name, arithmetic_exception_name, null_pointer_exception_name, array_store_exception_name, class_cast_exception_name, index_out_of_bounds_exception_name, negative_array_size_exception_name, illegal_argument_exception_name, illegal_state_exception_name, array_index_out_of_bounds_exception_name, string_index_out_of_bounds_exception_name, linkage_error_name, virtual_machine_error_name, no_class_def_found_error_name, exception_in_initializer_error_name, incompatible_class_change_error_name, abstract_method_error_name, stack_overflow_error_name}
+use Rattle.cc_meaning.specs.BuiltIn.{is_built_in, built_in_classes, built_in_plain_classes, built_in_throwables, object_name, string_name, string_builder_name, system_name, print_stream_name, throwable_name, exception_name, error_name, runtime_exception_name, arithmetic_exception_name, null_pointer_exception_name, array_store_exception_name, class_cast_exception_name, index_out_of_bounds_exception_name, negative_array_size_exception_name, illegal_argument_exception_name, illegal_state_exception_name, array_index_out_of_bounds_exception_name, string_index_out_of_bounds_exception_name, linkage_error_name, virtual_machine_error_name, no_class_def_found_error_name, exception_in_initializer_error_name, incompatible_class_change_error_name, abstract_method_error_name, stack_overflow_error_name}
 use Rattle.cc_meaning_file.specs.Descriptors.{begins_with, names_class, names_reference}
 use Rattle.cc_meaning_program.specs.ClassFaults.{AreSound, IsDuplicate, Repeats}
 use Rattle.cc_meaning_program.specs.ClassNames.{AreClassNames, IsClassName}
@@ -155,6 +155,56 @@ pub no_method : (ids : Ids) (classes : List RawClass) (name member : List ℕ) �
 unfolding method_defined method_among
 no_method ids classes name member none = ap (method_among ids member) none
 
+-- ---- and fields
+
+pub field_defined_at : (ids : Ids) (classes : List RawClass) (name : List ℕ) (class : RawClass) (place : ℕ) (raw : RawField) → AreSound ids classes → members_of ids classes name ≡ Some class →
+    slice_get class.fields place ≡ Some raw → field_defined ids classes name (field_member ids raw.row) ≡ Some raw
+unfolding field_defined field_among
+field_defined_at ids classes name class place raw sound members there =
+    ap (field_among ids (field_member ids raw.row)) members
+    ∙ find_first (λ (field : RawField). bytes_eq (field_member ids field.row) (field_member ids raw.row)) class.fields place raw there (bytes_same (field_member ids raw.row) (field_member ids raw.row) refl) none
+  where
+    none : (j : ℕ) (other : RawField) → j < place → slice_get class.fields j ≡ Some other → bytes_eq (field_member ids other.row) (field_member ids raw.row) ≡ true → ⊥
+    none j other less at same =
+        let d = definition_from ids classes name class members in
+        sound.distinct d.number (IsDuplicate.of_field d.there (record {
+          earlier = j;
+          later = place;
+          order = less;
+          first = other;
+          first_there = at;
+          second = raw;
+          second_there = there;
+          same = same_bytes (field_member ids other.row) (field_member ids raw.row) same;
+        }))
+
+pub field_placed_at : (ids : Ids) (classes : List RawClass) (name : List ℕ) (class : RawClass) (place : ℕ) → members_of ids classes name ≡ Some class → field_placed ids classes name place ≡ slice_get class.fields place
+unfolding field_placed field_in
+field_placed_at ids classes name class place members = ap (field_in place) members
+
+-- a field that is defined has a place
+pub record IsFieldAt (ids : Ids) (classes : List RawClass) (name member : List ℕ) (raw : RawField) : Type 0 where
+  pub class : RawClass
+  pub members : members_of ids classes name ≡ Some class
+  pub place : ℕ
+  pub there : slice_get class.fields place ≡ Some raw
+  pub named : field_member ids raw.row ≡ member
+
+pub field_at : (ids : Ids) (classes : List RawClass) (name member : List ℕ) (raw : RawField) → field_defined ids classes name member ≡ Some raw → IsFieldAt ids classes name member raw
+unfolding field_defined field_among
+field_at ids classes name member raw e = from (members_of ids classes name) refl
+  where
+    from : (o : Option RawClass) → members_of ids classes name ≡ o → IsFieldAt ids classes name member raw
+    from None is = absurd (let none : None ≡ Some raw = sym (ap (field_among ids member) is) ∙ e in cc)
+    from (Some class) is =
+        let found = sym (ap (field_among ids member) is) ∙ e in
+        let (place, there, passes) = find_place (λ (field : RawField). bytes_eq (field_member ids field.row) member) class.fields raw found in
+        record { class = class; members = is; place = place; there = there; named = same_bytes (field_member ids raw.row) member passes }
+
+pub no_field : (ids : Ids) (classes : List RawClass) (name member : List ℕ) → members_of ids classes name ≡ None → field_defined ids classes name member ≡ None
+unfolding field_defined field_among
+no_field ids classes name member none = ap (field_among ids member) none
+
 -- ---- built-in members
 
 -- of a list none passes for an earlier one
@@ -287,3 +337,14 @@ not_of_file ids classes name place listed sound there = undefined ids classes na
     from : (number : ℕ) → Defines ids number name → (kind_of_class ids name ≡ kind.BuiltIn) ⊎ (kind_of_class ids name ≡ kind.Array) → ⊥
     from number d (inl is) = sound.distinct number (IsDuplicate.of_built_in d (built_in_by name (is_built_in name) (is_defined ids name) (begins_with 91 name) is))
     from number d (inr is) = defined_or_not ids number name d (array_by name (is_built_in name) (is_defined ids name) (begins_with 91 name) is)
+
+-- nor is `System`
+system_is : is_built_in system_name ≡ true
+unfolding built_in_classes built_in_plain_classes built_in_throwables object_name string_name string_builder_name system_name print_stream_name throwable_name exception_name error_name runtime_exception_name arithmetic_exception_name null_pointer_exception_name array_store_exception_name class_cast_exception_name index_out_of_bounds_exception_name negative_array_size_exception_name illegal_argument_exception_name illegal_state_exception_name array_index_out_of_bounds_exception_name string_index_out_of_bounds_exception_name linkage_error_name virtual_machine_error_name no_class_def_found_error_name exception_in_initializer_error_name incompatible_class_change_error_name abstract_method_error_name stack_overflow_error_name
+system_is = refl
+
+pub system_is_class : (ids : Ids) → IsClassName ids system_name
+system_is_class ids = IsClassName.built_in system_is
+
+pub no_field_of_system : (ids : Ids) (classes : List RawClass) (member : List ℕ) → AreSound ids classes → field_defined ids classes system_name member ≡ None
+no_field_of_system ids classes member sound = no_field ids classes system_name member (undefined ids classes system_name (λ number d. sound.distinct number (IsDuplicate.of_built_in d system_is)))

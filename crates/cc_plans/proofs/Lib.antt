@@ -9,3 +9,5 @@ pub mod MethodPlanning
 pub mod Renamed
 pub mod NamedFound
 pub mod MethodLinking
+pub mod FieldPlanning
+pub mod FieldLinking

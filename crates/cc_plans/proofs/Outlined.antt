@@ -4,14 +4,17 @@ use Rattle.std.specs.Prelude.{option_and_then, option_map, unwrap_or}
 use Rattle.std.proofs.lemmas.Option.{slice_get-get_or, unwrap_or-slice_get}
 use Rattle.cc_meaning.specs.declared.file.Ids.{Ids}
 use Rattle.cc_meaning.specs.declared.file.RawClass.{RawClass}
+use Rattle.cc_meaning.specs.declared.file.RawField.{RawField}
 use Rattle.cc_meaning.specs.declared.file.RawMethod.{RawMethod}
-use Rattle.cc_meaning_program.specs.Named.{method_member}
-use Rattle.cc_meaning_run.specs.BuiltInMethods.{BuiltInMethod}
+use Rattle.cc_meaning.specs.BuiltIn.{system_name}
+use Rattle.cc_meaning_program.specs.Named.{method_member, field_member}
+use Rattle.cc_meaning_run.specs.BuiltInMethods.{BuiltInMethod, BuiltInMethods, built_in_tables}
 use Rattle.cc_meaning_resolution.specs.Declared.{members_of, built_in_by_kind, built_in_member, built_in_methods_of}
+use Rattle.cc_meaning_resolution.specs.Members.{out_member}
 use Rattle.cc_meaning_linking.specs.declared.outline.Outline.{Outline}
 use Rattle.cc_meaning_linking.specs.Outlines.{AreOutlines, IsOutline, definition_number}
-use Rattle.cc_meaning_linking.specs.Plans.{name_at, raw_method_member, listed_member}
-use Rattle.cc_plans.specs.Listed.{listed_at, listed_text}
+use Rattle.cc_meaning_linking.specs.Plans.{name_at, raw_method_member, raw_field_member, listed_member}
+use Rattle.cc_plans.specs.Listed.{listed_at, listed_text, listed_members}
 
 pub there_at : (names : List (List ℕ)) (number : ℕ) → number < length names → slice_get names number ≡ Some (name_at names number)
 unfolding name_at
@@ -60,3 +63,21 @@ listed_named members table place methods e = ap (λ (names : List (List ℕ)). u
 pub listed_none : (members : List (List (List ℕ))) (place : ℕ) (methods : List BuiltInMethod) → listed_at members None ≡ map built_in_member methods → [] ≡ listed_member (slice_get methods place)
 unfolding listed_at
 listed_none members place methods e = ap (λ (names : List (List ℕ)). unwrap_or (slice_get names place) []) e ∙ text_at methods place
+
+pub field_named : (ids : Ids) (o : Option RawField) (row : ℕ) → Some row ≡ option_map (λ (raw : RawField). raw.row) o → field_member ids row ≡ raw_field_member ids o
+unfolding raw_field_member
+field_named ids None row e = absurd (cc)
+field_named ids (Some raw) row e = let same : row ≡ raw.row = cc in ap (field_member ids) same
+
+pub field_none : (ids : Ids) (o : Option RawField) → None ≡ option_map (λ (raw : RawField). raw.row) o → [] ≡ raw_field_member ids o
+unfolding raw_field_member
+field_none ids None e = refl
+field_none ids (Some raw) e = absurd (cc)
+
+pub out_named : listed_text listed_members 27 0 ≡ out_member
+unfolding listed_text listed_at listed_members built_in_tables
+out_named = refl
+
+pub system_at : slice_get (map (λ (table : BuiltInMethods). table.class) built_in_tables) 23 ≡ Some system_name
+unfolding built_in_tables
+system_at = refl

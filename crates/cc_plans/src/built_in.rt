@@ -2,6 +2,7 @@
 
 ghost use Rattle.std.specs.Prelude.{◌≡◌, ◌<◌, ◌^◌, ℕ, List, map, length, position, IfOk};
 ghost use Rattle.std.specs.Str.{bytes_eq};
+ghost use Rattle.cc_meaning.specs.BuiltIn.{system_name};
 ghost use Rattle.cc_meaning_resolution.specs.Declared.{built_in_by_kind, built_in_member};
 ghost use Rattle.cc_plans.specs.Listed.{AreListings, listed_at, listed_text};
 
@@ -81,6 +82,9 @@ const THROWABLE: &[&[u8]] = &[b"<init>()V", b"<init>(Ljava/lang/String;)V"];
 const ARRAY: &[&[u8]] = &[b"clone()Ljava/lang/Object;"];
 
 const SYSTEM_OUT: &[&[u8]] = &[b"out:Ljava/io/PrintStream;"];
+
+/// The place of `System` among the classes.
+const SYSTEM: usize = 23;
 
 /// The place of the members of arrays.
 const ARRAY_TABLE: u32 = 26;
@@ -220,6 +224,17 @@ impl Listings {
                 Some(member) => member.as_slice(),
                 None => &[],
             },
+            None => &[],
+        }
+    }
+
+    /// The name of `System`.
+    pub fn system(&self) -> &[u16]
+        requires { AreListings self.now }
+        ensures { result.now ≡ system_name }
+    {
+        match self.classes.get(SYSTEM) {
+            Some(name) => name.as_slice(),
             None => &[],
         }
     }

@@ -2,11 +2,15 @@
 #![tactic(auto)]
 
 mod built_in;
-mod links;
+mod field_rows;
+mod fields;
+mod method_rows;
 mod methods;
 mod named;
 mod order;
 mod tables;
 
-pub use links::method_links;
+pub use field_rows::field_links;
+pub use fields::field_plans;
+pub use method_rows::method_links;
 pub use methods::method_plans;

@@ -1,7 +1,7 @@
 use Rattle.std.proofs.Common.{length, map, subst}
 use Rattle.cc_plans.specs.Linked.{LinkMethods}
 use Rattle.cc_plans.proofs.MethodLinking.{all_linked}
-use Rattle.cc_plans.proofs.links.method_links.Goals as goal
+use Rattle.cc_plans.proofs.method_rows.method_links.Goals as goal
 
 pub returns : goal.returns
 returns c =

@@ -3,7 +3,7 @@ use Rattle.std.specs.Prelude.{Contains}
 use Rattle.cc_meaning_resolution.specs.Resolved.{whole_name}
 use Rattle.cc_plans.specs.Named.{named_text}
 use Rattle.cc_plans.proofs.MethodLinking.{not_stated, linked_to, unnamed, class_there}
-use Rattle.cc_plans.proofs.links.method_link.Goals as goal
+use Rattle.cc_plans.proofs.method_rows.method_link.Goals as goal
 
 pub returns-in_err-class : goal.returns-in_err-class
 returns-in_err-class c =

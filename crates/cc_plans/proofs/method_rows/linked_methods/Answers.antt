@@ -2,7 +2,7 @@ use Rattle.std.proofs.Common.{◌≡◌, length, map, subst, ◌∙◌, arith}
 use Rattle.cc_plans.specs.Linked.{LinkMethods}
 use Rattle.cc_plans.specs.Named.{named_text}
 use Rattle.cc_plans.proofs.MethodLinking.{none_linked, one_linked}
-use Rattle.cc_plans.proofs.links.linked_methods.Goals as goal
+use Rattle.cc_plans.proofs.method_rows.linked_methods.Goals as goal
 
 pub loop-row-init : goal.loop-row-init
 loop-row-init c = rw c.new-links.ensures (none_linked c.args.names.now.ids.now c.args.classes.now c.args.names.now.classes.now c.args.owners.now c.requires.tables c.requires.names c.requires.owners _)
