@@ -9,6 +9,7 @@ ghost use Rattle.cc_plans.specs.Listed.{AreListings, listed_at, listed_text};
 use cc_list::List;
 use cc_meaning::lists::{Texts, Units};
 use cc_meaning::program::ClassKind;
+use cc_names::ascii_names;
 use std::alloc::{AllocError, Global};
 
 /// The built-in classes, in the order of their names.
@@ -129,27 +130,6 @@ const MEMBERS: [&[&[u8]]; 28] = [
 pub struct Listings {
     pub(crate) classes: Texts,
     pub(crate) members: List<Texts>,
-}
-
-fn ascii(alloc: Global, text: &[u8]) -> Result<Units, AllocError>
-    ensures { IfOk result (λ units. units ≡ text.now) }
-{
-    let mut units = List::new(alloc);
-    for byte in text {
-        units.push(u16::from(*byte))?;
-    }
-    Ok(units)
-}
-
-/// These names in ASCII, as units.
-fn ascii_names(alloc: Global, names: &[&[u8]]) -> Result<Texts, AllocError>
-    ensures { IfOk result (λ texts. texts ≡ map (λ name. name.now) names.now) }
-{
-    let mut texts = List::new(alloc);
-    for name in names {
-        texts.push(ascii(alloc, name)?)?;
-    }
-    Ok(texts)
 }
 
 /// These lists of names in ASCII, as units.

@@ -50,48 +50,43 @@ fn owner_class(owner: FieldOwner) -> ClassIx
     }
 }
 
-/// What a row of fields is among fields that rise by their names.
-fn field_link(
-    names: &Names,
-    classes: &RawClasses,
-    named: &List<Named>,
-    owners: &FieldOwners,
-    row: u32,
-) -> Option<FieldIx>
-    requires owners { AreFieldOwners names.now.ids.now classes.now names.now.classes.now owners.now }
-    requires rise { IsRising (map (named_text names.now.ids.now names.now.classes.now names.now.listings.now.members) named.now) }
-    requires few_fields { length named.now < 2 ^ 32 }
-    ensures { IsFieldLinked names.now.ids.now classes.now (map (named_text names.now.ids.now names.now.classes.now names.now.listings.now.members) named.now) row result }
-{
-    one_field_owner();
-    let owner = owners.get(row as usize)?;
-    let wanted = Named {
-        owner: owner_class(*owner),
-        member: Member::Field(row),
-    };
-    let number = find_named(names, named, wanted)?;
-    Some(number)
-}
-
-/// What each row of fields is among fields that rise by their names.
-fn linked_fields(
-    alloc: Global,
-    names: &Names,
-    classes: &RawClasses,
-    named: &List<Named>,
-    owners: &FieldOwners,
-) -> Result<List<Option<FieldIx>>, AllocError>
-    requires owners { AreFieldOwners names.now.ids.now classes.now names.now.classes.now owners.now }
-    requires rise { IsRising (map (named_text names.now.ids.now names.now.classes.now names.now.listings.now.members) named.now) }
-    ensures { IfOk result (LinkFields names.now.ids.now classes.now
-        (map (named_text names.now.ids.now names.now.classes.now names.now.listings.now.members) named.now) (length names.now.ids.now.fields)) }
-{
-    count_of(named.len())?;
-    let mut links = List::new(alloc);
-    for row in 0..count_of(names.ids.fields.len())? {
-        links.push(field_link(names, classes, named, owners, row))?;
+impl Tables<'_> {
+    /// What a row of fields is among fields that rise by their names.
+    fn field_link(&self, named: &List<Named>, owners: &FieldOwners, row: u32) -> Option<FieldIx>
+        requires owners { AreFieldOwners self.now.names.ids.now self.now.classes.now self.now.names.classes.now owners.now }
+        requires rise { IsRising (map (named_text self.now.names.ids.now self.now.names.classes.now self.now.names.listings.now.members) named.now) }
+        requires few_fields { length named.now < 2 ^ 32 }
+        ensures { IsFieldLinked self.now.names.ids.now self.now.classes.now (map (named_text self.now.names.ids.now self.now.names.classes.now self.now.names.listings.now.members) named.now) row result }
+    {
+        one_field_owner();
+        let owner = owners.get(row as usize)?;
+        let wanted = Named {
+            owner: owner_class(*owner),
+            member: Member::Field(row),
+        };
+        let number = find_named(&self.names, named, wanted)?;
+        Some(number)
     }
-    Ok(links)
+
+    /// What each row of fields is among fields that rise by their names.
+    fn linked_fields(
+        &self,
+        alloc: Global,
+        named: &List<Named>,
+        owners: &FieldOwners,
+    ) -> Result<List<Option<FieldIx>>, AllocError>
+        requires owners { AreFieldOwners self.now.names.ids.now self.now.classes.now self.now.names.classes.now owners.now }
+        requires rise { IsRising (map (named_text self.now.names.ids.now self.now.names.classes.now self.now.names.listings.now.members) named.now) }
+        ensures { IfOk result (LinkFields self.now.names.ids.now self.now.classes.now
+            (map (named_text self.now.names.ids.now self.now.names.classes.now self.now.names.listings.now.members) named.now) (length self.now.names.ids.now.fields)) }
+    {
+        count_of(named.len())?;
+        let mut links = List::new(alloc);
+        for row in 0..count_of(self.names.ids.fields.len())? {
+            links.push(self.field_link(named, owners, row))?;
+        }
+        Ok(links)
+    }
 }
 
 /// For each row of fields the field of the program that it names after resolution, where the program has that field. All that instructions use are so.
@@ -130,5 +125,5 @@ pub fn field_links<'a>(
         outlines,
     };
     let named = tables.named_fields(alloc, plans.as_slice())?;
-    Ok(linked_fields(alloc, &names, classes, &named, owners)?)
+    Ok(tables.linked_fields(alloc, &named, owners)?)
 }

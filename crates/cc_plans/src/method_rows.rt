@@ -57,56 +57,56 @@ fn owner_class(owner: MethodOwner) -> ClassIx
     }
 }
 
-/// What a row of methods is among methods that rise by their names.
-fn method_link(
-    names: &Names,
-    classes: &RawClasses,
-    named: &List<Named>,
-    owners: &MethodOwners,
-    row: u32,
-) -> Option<MethodLink>
-    requires tables { FitTables names.now.ids.now }
-    requires names { AreClassNames names.now.ids.now names.now.classes.now }
-    requires few { length names.now.classes.now < 2 ^ 32 }
-    requires owners { AreMethodOwners names.now.ids.now classes.now names.now.classes.now owners.now }
-    requires rise { IsRising (map (named_text names.now.ids.now names.now.classes.now names.now.listings.now.members) named.now) }
-    requires few_methods { length named.now < 2 ^ 32 }
-    ensures { IsMethodLinked names.now.ids.now classes.now names.now.classes.now (map (named_text names.now.ids.now names.now.classes.now names.now.listings.now.members) named.now) row result }
-{
-    one_method_owner();
-    let stated = names.ids.methods.get(row as usize)?;
-    let owner = owners.get(row as usize)?;
-    let class = find(names.classes, type_name(names.ids, stated.class))?;
-    let wanted = Named {
-        owner: owner_class(*owner),
-        member: Member::Method(row),
-    };
-    let number = find_named(names, named, wanted)?;
-    Some(MethodLink { class, number })
-}
-
-/// What each row of methods is among methods that rise by their names.
-fn linked_methods(
-    alloc: Global,
-    names: &Names,
-    classes: &RawClasses,
-    named: &List<Named>,
-    owners: &MethodOwners,
-) -> Result<List<Option<MethodLink>>, AllocError>
-    requires tables { FitTables names.now.ids.now }
-    requires names { AreClassNames names.now.ids.now names.now.classes.now }
-    requires few { length names.now.classes.now < 2 ^ 32 }
-    requires owners { AreMethodOwners names.now.ids.now classes.now names.now.classes.now owners.now }
-    requires rise { IsRising (map (named_text names.now.ids.now names.now.classes.now names.now.listings.now.members) named.now) }
-    ensures { IfOk result (LinkMethods names.now.ids.now classes.now names.now.classes.now
-        (map (named_text names.now.ids.now names.now.classes.now names.now.listings.now.members) named.now) (length names.now.ids.now.methods)) }
-{
-    count_of(named.len())?;
-    let mut links = List::new(alloc);
-    for row in 0..count_of(names.ids.methods.len())? {
-        links.push(method_link(names, classes, named, owners, row))?;
+impl Tables<'_> {
+    /// What a row of methods is among methods that rise by their names.
+    fn method_link(
+        &self,
+        named: &List<Named>,
+        owners: &MethodOwners,
+        row: u32,
+    ) -> Option<MethodLink>
+        requires tables { FitTables self.now.names.ids.now }
+        requires names { AreClassNames self.now.names.ids.now self.now.names.classes.now }
+        requires few { length self.now.names.classes.now < 2 ^ 32 }
+        requires owners { AreMethodOwners self.now.names.ids.now self.now.classes.now self.now.names.classes.now owners.now }
+        requires rise { IsRising (map (named_text self.now.names.ids.now self.now.names.classes.now self.now.names.listings.now.members) named.now) }
+        requires few_methods { length named.now < 2 ^ 32 }
+        ensures { IsMethodLinked self.now.names.ids.now self.now.classes.now self.now.names.classes.now (map (named_text self.now.names.ids.now self.now.names.classes.now self.now.names.listings.now.members) named.now) row result }
+    {
+        one_method_owner();
+        let stated = self.names.ids.methods.get(row as usize)?;
+        let owner = owners.get(row as usize)?;
+        let class = find(self.names.classes, type_name(self.names.ids, stated.class))?;
+        let wanted = Named {
+            owner: owner_class(*owner),
+            member: Member::Method(row),
+        };
+        let number = find_named(&self.names, named, wanted)?;
+        Some(MethodLink { class, number })
     }
-    Ok(links)
+
+    /// What each row of methods is among methods that rise by their names.
+    fn linked_methods(
+        &self,
+        alloc: Global,
+        named: &List<Named>,
+        owners: &MethodOwners,
+    ) -> Result<List<Option<MethodLink>>, AllocError>
+        requires tables { FitTables self.now.names.ids.now }
+        requires names { AreClassNames self.now.names.ids.now self.now.names.classes.now }
+        requires few { length self.now.names.classes.now < 2 ^ 32 }
+        requires owners { AreMethodOwners self.now.names.ids.now self.now.classes.now self.now.names.classes.now owners.now }
+        requires rise { IsRising (map (named_text self.now.names.ids.now self.now.names.classes.now self.now.names.listings.now.members) named.now) }
+        ensures { IfOk result (LinkMethods self.now.names.ids.now self.now.classes.now self.now.names.classes.now
+            (map (named_text self.now.names.ids.now self.now.names.classes.now self.now.names.listings.now.members) named.now) (length self.now.names.ids.now.methods)) }
+    {
+        count_of(named.len())?;
+        let mut links = List::new(alloc);
+        for row in 0..count_of(self.names.ids.methods.len())? {
+            links.push(self.method_link(named, owners, row))?;
+        }
+        Ok(links)
+    }
 }
 
 /// For each row of methods the method of the program that it names after resolution, and the class that it states, where the program has that method. All
@@ -149,5 +149,5 @@ pub fn method_links<'a>(
         outlines,
     };
     let named = tables.named_methods(alloc, plans.as_slice())?;
-    Ok(linked_methods(alloc, &names, classes, &named, owners)?)
+    Ok(tables.linked_methods(alloc, &named, owners)?)
 }

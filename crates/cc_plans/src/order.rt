@@ -10,19 +10,8 @@ ghost use Rattle.cc_meaning.specs.Order.{IsBefore};
 ghost use Rattle.cc_plans.specs.FirstInOrder.{AreFirst};
 
 use cc_list::List;
-use cc_names::Naming;
+use cc_names::{Naming, is_behind_last};
 use std::alloc::{AllocError, Global};
-
-/// Whether a thing's name comes behind that of the last of these, where there is one.
-fn is_behind_last<N: Naming>(naming: &N, kept: &[N::Item], item: N::Item) -> bool
-    ensures behind { OnTrue result (IsBehindLast (N.name naming.now) kept.now item) }
-    ensures other { OnFalse result ((last : N.Item) × Contains kept.now last × (IsBefore (N.name naming.now last) (N.name naming.now item) → ⊥)) }
-{
-    match kept.last() {
-        Some(last) => naming.compare(*last, item).is_lt(),
-        None => true,
-    }
-}
 
 /// Of things in the order of their names, the first of each name.
 fn first_of_each<N: Naming>(
