@@ -1,10 +1,10 @@
 -- The members that a file defines, and those that a class lists.
-use Rattle.std.proofs.Common.{◌≡◌, ◌≢◌, ◌⊎◌, inl, inr, ℕ, zero, suc, ◌+◌, ◌-◌, ◌<◌, ◌≤◌, Bool, true, false, List, [], ◌∷◌, ◌++◌, length, map, get_or, Option, Some, None, slice_get, refl, sym, ap, subst, ◌∙◌, arith}
-use Rattle.std.specs.Prelude.{Contains, cond, position, find, is_some, option_and_then, if◌then◌else◌, ◌||◌, ◌&&◌, not}
-use Rattle.std.specs.List.{list_all, list_any}
+use Rattle.std.proofs.Common.{◌≡◌, ◌⊎◌, inl, inr, ℕ, zero, suc, ◌<◌, Bool, true, false, List, [], ◌∷◌, map, get_or, Option, Some, None, slice_get, refl, sym, ap, subst, ◌∙◌, arith}
+use Rattle.std.specs.Prelude.{cond, position, find, is_some, option_and_then, if◌then◌else◌, ◌||◌, ◌&&◌, not}
+use Rattle.std.specs.List.{list_all}
 use Rattle.std.specs.Str.{bytes_eq}
 use Rattle.std.proofs.lemmas.List.Quantifiers.{position-Some}
-use Rattle.std.proofs.lemmas.Option.{slice_get-get_or, slice_get_within, get_or_from_slice_get}
+use Rattle.std.proofs.lemmas.Option.{slice_get-get_or}
 use Rattle.std.proofs.lemmas.Slice.Eq.{bytes_eq-Decides}
 use Rattle.cc_meaning.specs.declared.file.ClassRow.{ClassRow}
 use Rattle.cc_meaning.specs.declared.file.Ids.{Ids}
@@ -15,8 +15,8 @@ use Rattle.cc_meaning.specs.declared.program.ClassKind.{ClassKind}
 use Rattle.cc_meaning.specs.declared.program.ClassKind.TheVariants as kind
 use Rattle.cc_meaning.specs.BuiltIn.{is_built_in, built_in_classes, built_in_plain_classes, built_in_throwables, object_name, string_name, string_builder_name, system_name, print_stream_name, throwable_name, exception_name, error_name, runtime_exception_name, arithmetic_exception_name, null_pointer_exception_name, array_store_exception_name, class_cast_exception_name, index_out_of_bounds_exception_name, negative_array_size_exception_name, illegal_argument_exception_name, illegal_state_exception_name, array_index_out_of_bounds_exception_name, string_index_out_of_bounds_exception_name, linkage_error_name, virtual_machine_error_name, no_class_def_found_error_name, exception_in_initializer_error_name, incompatible_class_change_error_name, abstract_method_error_name, stack_overflow_error_name}
 use Rattle.cc_meaning_file.specs.Descriptors.{begins_with, names_class, names_reference}
-use Rattle.cc_meaning_program.specs.ClassFaults.{AreSound, IsDuplicate, Repeats}
-use Rattle.cc_meaning_program.specs.ClassNames.{AreClassNames, IsClassName}
+use Rattle.cc_meaning_program.specs.ClassFaults.{AreSound, IsDuplicate}
+use Rattle.cc_meaning_program.specs.ClassNames.{IsClassName}
 use Rattle.cc_meaning_program.specs.Definitions.{Defines}
 use Rattle.cc_meaning_program.specs.Named.{type_name, method_member, field_member}
 use Rattle.cc_meaning_run.specs.BuiltInMethods.{BuiltInMethod, BuiltInMethods, built_in_tables, print_stream_methods, object_methods, string_methods, string_builder_methods, message_methods}
@@ -24,7 +24,6 @@ use Rattle.cc_meaning_resolution.specs.Ancestry.{kind_of_class, outside_kind, is
 use Rattle.cc_meaning_resolution.specs.Declared.{members_of, method_among, method_defined, method_listed, field_among, field_defined, built_in_member, built_in_by_kind, built_in_methods_of, methods_of_table, array_methods}
 use Rattle.cc_meaning_linking.specs.Owners.{method_in, method_placed, field_in, field_placed}
 use Rattle.cc_meaning_linking.specs.Rows.{FitTables}
-use Rattle.cc_plans.proofs.Listing.{position_within, found_nowhere}
 
 -- ---- searches
 

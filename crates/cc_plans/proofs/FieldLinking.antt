@@ -1,15 +1,12 @@
 -- What rows of fields are among the fields of a program.
-use Rattle.std.proofs.Common.{◌≡◌, ◌⊎◌, inl, inr, ℕ, zero, suc, ◌+◌, ◌<◌, ◌≤◌, List, [], ◌∷◌, ◌++◌, length, map, get_or, Option, Some, None, slice_get, refl, sym, ap, subst, ◌∙◌, arith}
+use Rattle.std.proofs.Common.{◌≡◌, ◌⊎◌, inl, inr, ℕ, ◌+◌, ◌<◌, ◌≤◌, List, [], ◌∷◌, ◌++◌, length, map, get_or, Option, Some, None, slice_get, refl, sym, ap, subst, ◌∙◌, arith}
 use Rattle.std.specs.Prelude.{Contains}
-use Rattle.std.specs.List.{flat_map}
 use Rattle.std.proofs.lemmas.List.{length-append}
-use Rattle.std.proofs.lemmas.List.Elements.{Contains-append_cases}
 use Rattle.std.proofs.lemmas.Option.{slice_get_within, slice_get_cases}
 use Rattle.cc_meaning.specs.declared.file.Ids.{Ids}
 use Rattle.cc_meaning.specs.declared.file.FieldRow.{FieldRow}
 use Rattle.cc_meaning.specs.declared.file.RawClass.{RawClass}
 use Rattle.cc_meaning.specs.declared.program.Placed.{Placed}
-use Rattle.cc_meaning_program.specs.ClassNames.{AreClassNames, IsClassName}
 use Rattle.cc_meaning_program.specs.Named.{type_name, field_member}
 use Rattle.cc_meaning_resolution.specs.Laws.{OneFieldOwner}
 use Rattle.cc_meaning_resolution.specs.Members.{BelongsField}
@@ -21,11 +18,9 @@ use Rattle.cc_meaning_linking.specs.declared.plan.FieldPlan.{FieldPlan}
 use Rattle.cc_meaning_linking.specs.declared.uses.MethodUse.{MethodUse}
 use Rattle.cc_meaning_linking.specs.Links.{IsFieldLink}
 use Rattle.cc_meaning_linking.specs.Owners.{AreFieldOwners, IsFieldOwner}
-use Rattle.cc_meaning_linking.specs.Plans.{AreFieldPlans, field_plan_name, name_at}
-use Rattle.cc_meaning_linking.specs.Rows.{FitTables}
+use Rattle.cc_meaning_linking.specs.Plans.{AreFieldPlans, field_plan_name}
 use Rattle.cc_meaning_linking.specs.Uses.{AreUses, field_use_of, field_uses_of}
 use Rattle.cc_plans.specs.declared.named.Member.TheVariants.{Field}
-use Rattle.cc_plans.specs.declared.named.Named.{Named}
 use Rattle.cc_plans.specs.Candidates.{field_owner_class}
 use Rattle.cc_plans.specs.Linked.{IsFieldLinked, LinkFields, AreFieldLinks}
 use Rattle.cc_plans.specs.Named.{named_text, member_text}

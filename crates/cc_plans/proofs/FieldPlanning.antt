@@ -1,11 +1,10 @@
 -- The fields of a program, once those that the file defines, `System.out`, and those that rows name are put in order.
 use Rattle.std.proofs.Common.{◌≡◌, ◌≢◌, ◌⊎◌, ◌↔◌, inl, inr, ℕ, ◌<◌, ◌≤◌, List, [], ◌∷◌, ◌++◌, length, map, get_or, Option, Some, None, slice_get, refl, sym, ap, subst, ◌∙◌, arith}
 use Rattle.std.specs.Prelude.{Contains}
-use Rattle.std.specs.List.{flat_map, filter_map}
+use Rattle.std.specs.List.{flat_map}
 use Rattle.std.proofs.lemmas.List.Elements.{Contains-append_left, Contains-append_right, Contains-append_cases, Contains-push, Contains-push_cases}
 use Rattle.std.proofs.lemmas.Option.{slice_get_within, slice_get_cases}
 use Rattle.cc_meaning.specs.declared.file.Ids.{Ids}
-use Rattle.cc_meaning.specs.declared.file.FieldRow.{FieldRow}
 use Rattle.cc_meaning.specs.declared.file.RawClass.{RawClass}
 use Rattle.cc_meaning.specs.declared.file.RawField.{RawField}
 use Rattle.cc_meaning.specs.declared.program.Placed.{Placed}
@@ -35,7 +34,7 @@ use Rattle.cc_meaning_linking.specs.Uses.{AreUses, field_use_of, field_uses_of}
 use Rattle.cc_names.specs.InOrder.{AreInOrder}
 use Rattle.cc_plans.specs.Candidates.{IsOwnField, IsOwnFieldBelow, IsOut, file_field, field_count, beyond_field, beyond_fields}
 use Rattle.cc_plans.specs.FirstInOrder.{AreFirst}
-use Rattle.cc_plans.proofs.Defined.{some_is, definition_from, defined_is_class, field_defined_at, field_placed_at, field_at, system_is_class, no_field_of_system}
+use Rattle.cc_plans.proofs.Defined.{some_is, definition_from, defined_is_class, field_defined_at, field_placed_at, field_at, no_field_of_system}
 use Rattle.cc_plans.proofs.MethodPlanning.{contains_at, at_contained, in_filter_map, filter_map_from, in_flat_map, first_of_two, Makes, first_maker, first_as}
 use Rattle.cc_plans.proofs.Outlined.{there_at, name_there}
 use Rattle.cc_plans.proofs.UsedRows.{field_used}

@@ -22,16 +22,14 @@ use Rattle.cc_meaning_linking.specs.declared.plan.MethodPlan.{MethodPlan}
 use Rattle.cc_meaning_linking.specs.declared.uses.MethodUse.{MethodUse}
 use Rattle.cc_meaning_linking.specs.Links.{IsMethodLink}
 use Rattle.cc_meaning_linking.specs.Owners.{AreMethodOwners, IsMethodOwner}
-use Rattle.cc_meaning_linking.specs.Plans.{AreMethodPlans, method_plan_name, name_at}
+use Rattle.cc_meaning_linking.specs.Plans.{AreMethodPlans, method_plan_name}
 use Rattle.cc_meaning_linking.specs.Rows.{FitTables}
 use Rattle.cc_meaning_linking.specs.Uses.{AreUses, method_use_of, method_uses_of}
 use Rattle.cc_plans.specs.declared.named.Member.TheVariants.{Method}
-use Rattle.cc_plans.specs.declared.named.Named.{Named}
 use Rattle.cc_plans.specs.Candidates.{owner_class}
 use Rattle.cc_plans.specs.Linked.{IsMethodLinked, LinkMethods, AreMethodLinks}
 use Rattle.cc_plans.specs.Named.{named_text, member_text}
 use Rattle.cc_plans.proofs.Defined.{some_is}
-use Rattle.cc_plans.proofs.MethodPlanning.{contains_at}
 use Rattle.cc_plans.proofs.Outlined.{name_there}
 use Rattle.cc_plans.proofs.UsedRows.{use_named}
 

@@ -1,29 +1,23 @@
 -- The methods of a program, once the methods that classes have themselves and those that uses name are put in order.
-use Rattle.std.proofs.Common.{◌≡◌, ◌≢◌, ◌⊎◌, ◌↔◌, inl, inr, ℕ, zero, suc, ◌+◌, ◌<◌, ◌≤◌, List, [], ◌∷◌, ◌++◌, length, map, get_or, Option, Some, None, slice_get, refl, sym, ap, subst, ◌∙◌, arith}
+use Rattle.std.proofs.Common.{◌≡◌, ◌⊎◌, ◌↔◌, inl, inr, ℕ, zero, suc, ◌<◌, ◌≤◌, List, [], ◌∷◌, ◌++◌, length, map, get_or, Option, Some, None, slice_get, refl, sym, ap, subst, ◌∙◌, arith}
 use Rattle.std.specs.Prelude.{Contains}
 use Rattle.std.specs.List.{flat_map, filter_map, cons_option}
-use Rattle.std.proofs.lemmas.List.Elements.{Contains-append_left, Contains-append_right, Contains-append_cases, filter_map-append}
+use Rattle.std.proofs.lemmas.List.Elements.{Contains-append_left, Contains-append_right, Contains-append_cases}
 use Rattle.std.proofs.lemmas.Option.{slice_get_within, slice_get_cases, get_or_from_slice_get}
 use Rattle.cc_meaning.specs.declared.file.Ids.{Ids}
 use Rattle.cc_meaning.specs.declared.file.RawClass.{RawClass}
 use Rattle.cc_meaning.specs.declared.file.RawMethod.{RawMethod}
-use Rattle.cc_meaning.specs.declared.instruction.Insn.{Insn}
-use Rattle.cc_meaning.specs.declared.instruction.Insn.TheVariants as insn
-use Rattle.cc_meaning.specs.declared.instruction.MethodRef.TheVariants as called
 use Rattle.cc_meaning.specs.declared.program.Placed.{Placed}
-use Rattle.cc_meaning.specs.Order.{IsRising}
 use Rattle.cc_meaning_run.specs.BuiltInMethods.{BuiltInMethod}
-use Rattle.cc_meaning_program.specs.declared.reference.Reference.TheVariants as reference
 use Rattle.cc_meaning_program.specs.ClassFaults.{AreSound}
 use Rattle.cc_meaning_program.specs.ClassNames.{AreClassNames, IsClassName}
 use Rattle.cc_meaning_program.specs.Instructions.{OneReading}
 use Rattle.cc_meaning_program.specs.Named.{type_name, method_member}
-use Rattle.cc_meaning_program.specs.References.{reference_of, named_method, named_type}
 use Rattle.cc_meaning_resolution.specs.Declared.{members_of, method_defined, method_listed, built_in_member, built_in_methods_of}
 use Rattle.cc_meaning_resolution.specs.Laws.{OneMethodOwner}
 use Rattle.cc_meaning_resolution.specs.Members.{BelongsMethod}
 use Rattle.cc_meaning_resolution.specs.Owners.{MethodOwner as OwnsMethod}
-use Rattle.cc_meaning_resolution.specs.Naming.{ClassesAre, RowNamesMethod, NamesMethod}
+use Rattle.cc_meaning_resolution.specs.Naming.{RowNamesMethod}
 use Rattle.cc_meaning_resolution.specs.Resolved.{whole_name}
 use Rattle.cc_meaning_resolution.specs.Searches.{First}
 use Rattle.cc_meaning_resolution.proofs.SameMembers.{classes_once}
@@ -38,11 +32,10 @@ use Rattle.cc_meaning_linking.specs.Plans.{AreMethodPlans, IsSource, name_at, me
 use Rattle.cc_meaning_linking.specs.Rows.{FitTables}
 use Rattle.cc_meaning_linking.specs.Uses.{AreUses, method_use_of, method_uses_of}
 use Rattle.cc_names.specs.InOrder.{AreInOrder}
-use Rattle.cc_names.proofs.Ordered.{mapped_from}
-use Rattle.cc_plans.specs.Candidates.{IsBelow, IsOwnPlan, IsOwnBelow, file_plan, built_in_plan, method_count, outside_plan, outside_plans}
+use Rattle.cc_plans.specs.Candidates.{IsOwnPlan, IsOwnBelow, file_plan, built_in_plan, method_count, outside_plan, outside_plans}
 use Rattle.cc_plans.specs.FirstInOrder.{AreFirst}
 use Rattle.cc_plans.proofs.Defined.{some_is, definition_from, defined_is_class, method_defined_at, method_placed_at, method_at, no_method, method_listed_at, listed_at_place, not_of_file}
-use Rattle.cc_plans.proofs.Ordered.{contains_head, contains_tail, first_so}
+use Rattle.cc_plans.proofs.Ordered.{contains_head, contains_tail}
 use Rattle.cc_plans.proofs.Outlined.{there_at, name_there}
 use Rattle.cc_plans.proofs.UsedRows.{method_used}
 

@@ -1,18 +1,17 @@
 -- The first thing of each name, one thing more at a time.
 use Rattle.std.proofs.Common.{◌≡◌, ◌≢◌, ◌⊎◌, inl, inr, ℕ, suc, ◌-◌, ◌<◌, ◌≤◌, Bool, true, false, ◌&&◌, not, List, [], ◌∷◌, ◌++◌, length, map, get_or, refl, sym, ap, subst, ◌∙◌, arith}
-use Rattle.std.specs.Prelude.{Contains, cond}
+use Rattle.std.specs.Prelude.{Contains}
 use Rattle.std.specs.List.{filter}
 use Rattle.std.specs.List.Sorted.{IsStableBy, ties}
 use Rattle.std.specs.Cmp.Lexicographic.{slice_cmp}
 use Rattle.std.specs.Ordering.{nat_cmp, is_lt}
-use Rattle.std.specs.declared.cmp.Ordering.TheVariants.{Less, Equal, Greater}
+use Rattle.std.specs.declared.cmp.Ordering.TheVariants.{Less, Equal}
 use Rattle.std.proofs.lemmas.Cmp.{nat_list_cmp_total, tied_itself}
 use Rattle.std.proofs.lemmas.List.{length-map, get_or-map}
 use Rattle.std.proofs.lemmas.List.Elements.{Contains-push_cases}
-use Rattle.std.proofs.lemmas.Map.Lookups.{exact_bytes}
 use Rattle.cc_meaning.specs.Order.{IsBefore, IsRising}
 use Rattle.cc_names.specs.InOrder.{AreInOrder, IsBehindLast}
-use Rattle.cc_names.proofs.Ordered.{mapped_from, same_name, none_in_order}
+use Rattle.cc_names.proofs.Ordered.{same_name, none_in_order}
 use Rattle.cc_meaning_resolution.specs.Searches.{First}
 use Rattle.cc_plans.specs.FirstInOrder.{AreFirst}
 

@@ -1,5 +1,5 @@
 -- The rows that instructions name are among those that they use.
-use Rattle.std.proofs.Common.{◌≡◌, ◌<◌, arith, zero, suc, List, ℕ, ◌∷◌, [], Some, None, sym, ap, refl, ◌∙◌, subst}
+use Rattle.std.proofs.Common.{◌≡◌, arith, zero, suc, ℕ, ◌∷◌, [], Some, ap, subst}
 use Rattle.std.specs.Prelude.{Contains}
 use Rattle.cc_meaning.specs.declared.instruction.Insn.{Insn}
 use Rattle.cc_meaning.specs.declared.instruction.Insn.TheVariants as insn

@@ -1,4 +1,4 @@
-use Rattle.std.proofs.Common.{length, map, subst}
+use Rattle.std.proofs.Common.{length, subst}
 use Rattle.cc_plans.specs.Linked.{LinkFields}
 use Rattle.cc_plans.proofs.FieldLinking.{all_linked}
 use Rattle.cc_plans.proofs.field_rows.field_links.Goals as goal

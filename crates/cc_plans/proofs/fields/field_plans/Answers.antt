@@ -1,4 +1,4 @@
-use Rattle.std.proofs.Common.{◌≡◌, ◌++◌, [], ◌∷◌, ap, ◌∙◌}
+use Rattle.std.proofs.Common.{◌++◌, [], ◌∷◌, ap, ◌∙◌}
 use Rattle.cc_plans.specs.Candidates.{beyond_fields}
 use Rattle.cc_plans.proofs.FieldPlanning.{all_there, are_plans}
 use Rattle.cc_plans.proofs.fields.field_plans.Goals as goal

@@ -1,4 +1,4 @@
-use Rattle.std.proofs.Common.{length, map, subst}
+use Rattle.std.proofs.Common.{length, subst}
 use Rattle.cc_plans.specs.Linked.{LinkMethods}
 use Rattle.cc_plans.proofs.MethodLinking.{all_linked}
 use Rattle.cc_plans.proofs.method_rows.method_links.Goals as goal

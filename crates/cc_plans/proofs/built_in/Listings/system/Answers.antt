@@ -1,4 +1,4 @@
-use Rattle.std.proofs.Common.{◌≡◌, Some, None, slice_get, sym, ap, ◌∙◌}
+use Rattle.std.proofs.Common.{◌≡◌, Some, None, slice_get, ap, ◌∙◌}
 use Rattle.cc_meaning.specs.BuiltIn.{system_name}
 use Rattle.cc_plans.proofs.Defined.{some_is}
 use Rattle.cc_plans.proofs.Outlined.{system_at}

@@ -1,8 +1,5 @@
-use Rattle.std.proofs.Common.{◌≡◌, ℕ, ◌<◌, List, [], length, map, Some, None, sym, ap, subst, refl, ◌∙◌, arith}
-use Rattle.std.specs.Prelude.{position}
-use Rattle.std.specs.Str.{bytes_eq}
-use Rattle.cc_meaning_resolution.specs.Declared.{built_in_by_kind, built_in_member}
-use Rattle.cc_plans.specs.Listed.{listed_at, listed_members}
+use Rattle.std.proofs.Common.{sym}
+use Rattle.cc_plans.specs.Listed.{listed_at}
 use Rattle.cc_plans.proofs.Listing.{of_built_in, of_array, of_others, few_classes}
 use Rattle.cc_plans.proofs.built_in.Listings.table_of.Goals as goal
 

@@ -1,7 +1,7 @@
-use Rattle.std.proofs.Common.{◌≡◌, ◌⊎◌, ◌↔◌, ◌∷◌, [], ◌++◌, subst, sym, ◌∙◌, arith}
+use Rattle.std.proofs.Common.{◌≡◌, ◌⊎◌, ◌↔◌, subst, ◌∙◌, arith}
 use Rattle.std.specs.Prelude.{Contains}
 use Rattle.cc_meaning_linking.specs.declared.plan.MethodPlan.{MethodPlan}
-use Rattle.cc_plans.specs.Candidates.{IsBelow, file_plan, method_count}
+use Rattle.cc_plans.specs.Candidates.{IsBelow, file_plan}
 use Rattle.cc_plans.proofs.Adding.{one_added}
 use Rattle.cc_plans.proofs.tables.Tables.add_defined.Goals as goal
 

@@ -1,4 +1,4 @@
-use Rattle.std.proofs.Common.{◌≡◌, map, sym, ◌∙◌}
+use Rattle.std.proofs.Common.{map, sym}
 use Rattle.cc_plans.specs.Named.{named_text}
 use Rattle.cc_plans.proofs.FieldLinking.{not_stated, linked_to, unnamed}
 use Rattle.cc_plans.proofs.tables.Tables.field_link.Goals as goal

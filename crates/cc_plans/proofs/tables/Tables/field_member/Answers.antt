@@ -1,4 +1,4 @@
-use Rattle.std.proofs.Common.{Some, None, slice_get, sym, ap, ◌∙◌, refl}
+use Rattle.std.proofs.Common.{refl}
 use Rattle.cc_meaning_linking.specs.Plans.{field_source_member}
 use Rattle.cc_plans.specs.Named.{member_text}
 use Rattle.cc_plans.proofs.Outlined.{field_named, field_none, out_named}

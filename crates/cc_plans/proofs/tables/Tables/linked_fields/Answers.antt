@@ -1,4 +1,4 @@
-use Rattle.std.proofs.Common.{◌≡◌, length, map, subst, ◌∙◌, arith}
+use Rattle.std.proofs.Common.{◌≡◌, length, map, subst, arith}
 use Rattle.cc_plans.specs.Linked.{LinkFields}
 use Rattle.cc_plans.specs.Named.{named_text}
 use Rattle.cc_plans.proofs.FieldLinking.{none_linked, one_linked}

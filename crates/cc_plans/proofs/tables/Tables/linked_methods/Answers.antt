@@ -1,4 +1,4 @@
-use Rattle.std.proofs.Common.{◌≡◌, length, map, subst, ◌∙◌, arith}
+use Rattle.std.proofs.Common.{◌≡◌, length, map, subst, arith}
 use Rattle.cc_plans.specs.Linked.{LinkMethods}
 use Rattle.cc_plans.specs.Named.{named_text}
 use Rattle.cc_plans.proofs.MethodLinking.{none_linked, one_linked}

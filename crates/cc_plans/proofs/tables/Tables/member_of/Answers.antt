@@ -1,4 +1,4 @@
-use Rattle.std.proofs.Common.{Some, None, slice_get, sym, ap, ◌∙◌, refl}
+use Rattle.std.proofs.Common.{refl}
 use Rattle.cc_meaning_linking.specs.Plans.{source_member}
 use Rattle.cc_plans.specs.Named.{member_text}
 use Rattle.cc_plans.proofs.Outlined.{row_named, row_none, listed_named, listed_none}

@@ -1,6 +1,5 @@
-use Rattle.std.proofs.Common.{◌≡◌, Some, map, sym, subst, ap, ◌∙◌}
+use Rattle.std.proofs.Common.{Some, map, sym, subst, ap, ◌∙◌}
 use Rattle.std.specs.Prelude.{Contains}
-use Rattle.cc_meaning_resolution.specs.Resolved.{whole_name}
 use Rattle.cc_plans.specs.Named.{named_text}
 use Rattle.cc_plans.proofs.MethodLinking.{not_stated, linked_to, unnamed, class_there}
 use Rattle.cc_plans.proofs.tables.Tables.method_link.Goals as goal

@@ -1,4 +1,4 @@
-use Rattle.std.proofs.Common.{◌≡◌, ◌↔◌, length, subst, ◌∙◌, arith}
+use Rattle.std.proofs.Common.{◌≡◌, ◌↔◌, length, subst, arith}
 use Rattle.std.specs.Prelude.{Contains}
 use Rattle.cc_meaning_linking.specs.declared.plan.FieldPlan.{FieldPlan}
 use Rattle.cc_plans.specs.Candidates.{IsOwnField, IsOwnFieldBelow}

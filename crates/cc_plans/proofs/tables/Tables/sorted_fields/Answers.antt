@@ -1,9 +1,7 @@
-use Rattle.std.proofs.Common.{◌≡◌, length, map, take, subst, sym, ap, ◌∙◌, arith}
+use Rattle.std.proofs.Common.{map, sym, ap, ◌∙◌}
 use Rattle.std.proofs.lemmas.List.{take_all}
 use Rattle.cc_meaning_linking.specs.Plans.{field_plan_name}
-use Rattle.cc_names.specs.InOrder.{AreInOrder}
 use Rattle.cc_plans.specs.declared.fields.FieldCandidate.{FieldCandidate}
-use Rattle.cc_plans.specs.FirstInOrder.{AreFirst}
 use Rattle.cc_plans.specs.Named.{named_text}
 use Rattle.cc_plans.proofs.Renamed.{parts_in_order, parts_first}
 use Rattle.cc_plans.proofs.tables.Tables.sorted_fields.Goals as goal
