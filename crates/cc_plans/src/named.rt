@@ -21,7 +21,8 @@ const ARROW: [u16; 2] = [45, 62];
 /// `:`, between a field's name and its type.
 const COLON: [u16; 1] = [58];
 
-/// What names a member within its class: a row of methods or of fields, or the places of a table of listed members and within it.
+/// What names a member within its class: a row of methods or of fields, or the places of a table of listed members and within it. A member that isn't there
+/// has an empty name.
 #[derive(Clone, Copy)]
 pub enum Member {
     Method(u32),
