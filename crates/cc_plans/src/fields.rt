@@ -10,7 +10,7 @@ ghost use Rattle.cc_meaning_linking.specs.declared.uses.MethodUse.{MethodUse};
 ghost use Rattle.cc_meaning_linking.specs.Outlines.{AreOutlines};
 ghost use Rattle.cc_meaning_linking.specs.Owners.{AreFieldOwners, field_placed};
 ghost use Rattle.cc_meaning_linking.specs.Plans.{AreFieldPlans, name_at, field_plan_name, field_source_member};
-ghost use Rattle.cc_meaning_linking.specs.Rows.{FitTables, FitClasses};
+ghost use Rattle.cc_meaning_linking.specs.Rows.{FitTables};
 ghost use Rattle.cc_meaning_linking.specs.Uses.{AreUses};
 ghost use Rattle.cc_names.specs.InOrder.{AreInOrder};
 ghost use Rattle.cc_plans.specs.Candidates.{AreFieldCandidates, AreTables, IsBelow, IsOwnField, IsOwnFieldBelow, IsOut, file_field, field_count, beyond_field, beyond_fields};
@@ -237,7 +237,6 @@ pub fn field_plans<'a>(
     uses: &Rows,
 ) -> Result<FieldPlans, Memory>
     requires tables { FitTables ids.now }
-    requires classes { FitClasses ids.now classes.now }
     requires sound { AreSound ids.now classes.now }
     requires names { AreClassNames ids.now names.now }
     requires few { length names.now < 2 ^ 32 }

@@ -10,7 +10,7 @@ ghost use Rattle.cc_meaning_linking.specs.declared.plan.MethodPlan.{MethodPlan};
 ghost use Rattle.cc_meaning_linking.specs.Outlines.{AreOutlines};
 ghost use Rattle.cc_meaning_linking.specs.Owners.{AreMethodOwners, method_placed};
 ghost use Rattle.cc_meaning_linking.specs.Plans.{AreMethodPlans, name_at, method_plan_name, source_member};
-ghost use Rattle.cc_meaning_linking.specs.Rows.{FitTables, FitClasses};
+ghost use Rattle.cc_meaning_linking.specs.Rows.{FitTables};
 ghost use Rattle.cc_meaning_linking.specs.Uses.{AreUses};
 ghost use Rattle.cc_names.specs.InOrder.{AreInOrder};
 ghost use Rattle.cc_plans.specs.Candidates.{AreCandidates, AreTables, IsBelow, IsOwnPlan, IsOwnBelow, file_plan, built_in_plan, method_count, outside_plan, outside_plans};
@@ -245,7 +245,6 @@ pub fn method_plans<'a>(
     uses: &MethodUses,
 ) -> Result<MethodPlans, Memory>
     requires tables { FitTables ids.now }
-    requires classes { FitClasses ids.now classes.now }
     requires sound { AreSound ids.now classes.now }
     requires names { AreClassNames ids.now names.now }
     requires few { length names.now < 2 ^ 32 }
