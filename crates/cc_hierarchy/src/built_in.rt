@@ -6,7 +6,7 @@ ghost use Rattle.std.specs.Str.{bytes_eq};
 ghost use Rattle.cc_meaning.specs.BuiltIn.{BuiltInClass, built_in_plain_classes, built_in_throwables, is_built_in};
 
 /// Whether a name is this text of ASCII.
-pub(crate) fn spells(name: &[u16], text: &[u8]) -> bool
+pub fn spells(name: &[u16], text: &[u8]) -> bool
     ensures { result ≡ bytes_eq text.now name.now }
 {
     text.iter()
@@ -71,7 +71,7 @@ fn is_throwable(name: &[u16]) -> bool
 }
 
 /// Whether a name is that of a built-in class.
-pub(crate) fn is_built_in(name: &[u16]) -> bool
+pub fn is_built_in(name: &[u16]) -> bool
     ensures { result ≡ is_built_in name.now }
 {
     is_plain(name) || is_throwable(name)

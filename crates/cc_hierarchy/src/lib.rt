@@ -14,5 +14,6 @@ mod repeats;
 mod search;
 mod superclasses;
 
+pub use built_in::{is_built_in, spells};
 pub use definitions::Definitions;
 pub use judge::judge_classes;

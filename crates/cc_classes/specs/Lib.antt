@@ -1,0 +1,5 @@
+pub mod Layouts
+pub mod Initialisers
+pub mod Values
+pub mod Made
+pub mod Parts

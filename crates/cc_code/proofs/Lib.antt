@@ -1,0 +1,10 @@
+pub mod Gathering
+pub mod Loops
+pub mod Rows
+pub mod Numbers
+pub mod Soundness
+pub mod Among
+pub mod References
+pub mod UsedRows
+pub mod Linkability
+pub mod Resolving

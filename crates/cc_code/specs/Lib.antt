@@ -1,0 +1,5 @@
+pub mod Gathering
+pub mod UsedRows
+pub mod Linkable
+pub mod Linked
+pub mod ProgramLinks

@@ -1,0 +1,12 @@
+pub mod Sound
+pub mod FirstUse
+pub mod Typed
+pub mod ByNumber
+pub mod FieldsMade
+pub mod MadeOneByOne
+pub mod Tables
+pub mod Spelling
+pub mod ListedMethods
+pub mod BodiesTaken
+pub mod MethodNames
+pub mod MethodsMade

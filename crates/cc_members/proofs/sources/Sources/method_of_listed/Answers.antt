@@ -1,0 +1,22 @@
+use Rattle.std.proofs.Common.{sym, ap, ◌∙◌, refl}
+use Rattle.std.specs.Prelude.{not}
+use Rattle.cc_meaning_resolution.specs.Declared.{built_in_member}
+use Rattle.cc_members.specs.Listed.{listed_in}
+use Rattle.cc_members.proofs.Spelling.{result_spelled}
+use Rattle.cc_members.proofs.sources.Sources.method_of_listed.Goals as goal
+
+pub spelled_types-requires-clause-spelled : goal.spelled_types-requires-clause-spelled
+unfolding listed_in
+spelled_types-requires-clause-spelled c = let (class, stands) = c.requires.stands in stands.params
+
+pub returns : goal.returns
+unfolding listed_in built_in_member
+returns c = λ class.
+    let (some, stands) = c.requires.stands in
+    record {
+      class = refl;
+      name = c.in_ok-name.ensures;
+      params = c.in_ok-params.ensures;
+      result = result_spelled c.args.self.now.names.now c.args.listed.now.result.now c.in_ok-result.result c.in_ok-result.ensures stands.result;
+      is = record { static = refl; virtual = c.ne.ensures ∙ ap not (sym stands.constructor); kind = refl };
+    }

@@ -1,0 +1,5 @@
+pub mod Climbing
+pub mod Defining
+pub mod Leading
+pub mod Numbering
+pub mod Tables
