@@ -112,7 +112,7 @@ fn ascii(alloc: Global, text: &[u8]) -> Result<Units, AllocError>
 }
 
 /// These names in ASCII, as units.
-fn ascii_names(alloc: Global, names: &[&[u8]]) -> Result<Texts, AllocError>
+pub fn ascii_names(alloc: Global, names: &[&[u8]]) -> Result<Texts, AllocError>
     ensures { IfOk result (λ texts. texts ≡ map (λ name. name.now) names.now) }
 {
     let mut texts = List::new(alloc);

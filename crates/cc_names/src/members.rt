@@ -30,7 +30,7 @@ const CLOSE: [u16; 1] = [41];
 
 /// A piece of the parameters and the result of a row of prototypes, by its number.
 #[tactic(auto, using(crate::proofs::MemberPieces::at_param, crate::proofs::MemberPieces::at_close, crate::proofs::MemberPieces::at_result, crate::proofs::MemberPieces::at_none), unfolding(crate::specs::Pieces::prototype_pieces))]
-fn prototype_piece(ids: &Ids, row: u32, at: usize) -> Option<&[u16]>
+pub fn prototype_piece(ids: &Ids, row: u32, at: usize) -> Option<&[u16]>
     ensures value { option_copied result ≡ slice_get (prototype_pieces ids.now (slice_get ids.now.protos row)) at }
     ensures few { OnSome result (at < 2 ^ 62) }
 {

@@ -26,7 +26,7 @@ pub trait Naming {
 }
 
 /// Whether a thing's name comes behind that of the last of these, where there is one.
-fn is_behind_last<N: Naming>(naming: &N, kept: &[N::Item], item: N::Item) -> bool
+pub fn is_behind_last<N: Naming>(naming: &N, kept: &[N::Item], item: N::Item) -> bool
     ensures behind { OnTrue result (IsBehindLast (N.name naming.now) kept.now item) }
     ensures other { OnFalse result ((last : N.Item) × Contains kept.now last × (IsBefore (N.name naming.now last) (N.name naming.now item) → ⊥)) }
 {

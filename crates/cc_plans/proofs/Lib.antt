@@ -1,0 +1,13 @@
+pub mod NamedPieces
+pub mod Listing
+pub mod Ordered
+pub mod Defined
+pub mod Outlined
+pub mod Adding
+pub mod UsedRows
+pub mod MethodPlanning
+pub mod Renamed
+pub mod NamedFound
+pub mod MethodLinking
+pub mod FieldPlanning
+pub mod FieldLinking

@@ -1,0 +1,5 @@
+pub mod Listed
+pub mod Named
+pub mod FirstInOrder
+pub mod Candidates
+pub mod Linked
