@@ -1,6 +1,5 @@
 -- A class, its superclass, and so on up to Object.
 use Rattle.std.proofs.Common.{◌≡◌, ◌⊎◌, inl, inr, ℕ, Bool, true, false, cond, List, Option, Some, None, slice_get, refl, sym, ap, subst, ◌∙◌}
-use Rattle.std.proofs.Common.{◌≡◌, ◌⊎◌, inl, inr, ℕ, Bool, true, false, cond, List, [], ◌∷◌, Option, Some, None, slice_get, refl, sym, ap, subst, ◌∙◌}
 use Rattle.std.specs.Prelude.{option_map, is_some}
 use Rattle.cc_meaning.specs.declared.file.ClassRow.{ClassRow}
 use Rattle.cc_meaning.specs.declared.file.Ids.{Ids}
@@ -10,21 +9,17 @@ use Rattle.cc_meaning.specs.declared.program.ClassKind.TheVariants.{File, BuiltI
 use Rattle.cc_meaning.specs.BuiltIn.{is_built_in, object_name, exception_name, error_name}
 use Rattle.cc_meaning_file.specs.Descriptors.{begins_with}
 use Rattle.cc_meaning_program.specs.Named.{type_name}
-use Rattle.cc_meaning_program.specs.Definitions.{Defines, Extends}
 use Rattle.cc_meaning_program.specs.ClassFaults.{AreSound, HasNoSuperclass}
 use Rattle.cc_meaning_resolution.specs.Ancestry.{definition_of, is_defined, is_exception, is_error, outside_kind, kind_of_class, stated_superclass, superclass_by_kind, superclass_named}
 use Rattle.cc_meaning_linking.specs.Climbing.{ClassesHaveAncestries}
 use Rattle.cc_linking_laws.proofs.Upward.{Passes, upward}
 use Rattle.cc_linking_laws.proofs.Definitions.{defined}
 use Rattle.cc_linking_laws.proofs.BuiltIn.{HasAncestry, one_up, superclass_of_kind, of_built_in, are_built_in}
-use Rattle.cc_linking_laws.proofs.Definitions.{Defined, defined}
-use Rattle.cc_linking_laws.proofs.BuiltIn.{HasAncestry, one_up, superclass_of_kind, of_built_in, of_object, of_exception, of_error}
 
 -- ---- classes that aren't of the file
 
 below_object : (ids : Ids) (name : List ℕ) (kind : ClassKind) → kind_of_class ids name ≡ kind → superclass_by_kind ids name kind ≡ Some object_name → HasAncestry ids name
 below_object ids name kind is stated = one_up ids name object_name (superclass_of_kind ids name kind is ∙ stated) (of_built_in ids object_name are_built_in.object)
-below_object ids name kind is stated = one_up ids name object_name (superclass_of_kind ids name kind is ∙ stated) (of_object ids)
 
 of_outside_error : (ids : Ids) (name : List ℕ) → kind_of_class ids name ≡ OutsideError → HasAncestry ids name
 unfolding superclass_by_kind
@@ -33,8 +28,6 @@ of_outside_error ids name is = from (is_exception name) refl
     from : (exception : Bool) → is_exception name ≡ exception → HasAncestry ids name
     from true e = one_up ids name exception_name (superclass_of_kind ids name OutsideError is ∙ ap (λ tested. Some (cond tested exception_name error_name)) e) (of_built_in ids exception_name are_built_in.exception)
     from false e = one_up ids name error_name (superclass_of_kind ids name OutsideError is ∙ ap (λ tested. Some (cond tested exception_name error_name)) e) (of_built_in ids error_name are_built_in.error)
-    from true e = one_up ids name exception_name (superclass_of_kind ids name OutsideError is ∙ ap (λ tested. Some (cond tested exception_name error_name)) e) (of_exception ids)
-    from false e = one_up ids name error_name (superclass_of_kind ids name OutsideError is ∙ ap (λ tested. Some (cond tested exception_name error_name)) e) (of_error ids)
 
 -- ---- whether a class is of the file
 

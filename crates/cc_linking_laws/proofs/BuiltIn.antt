@@ -1,13 +1,11 @@
 -- The classes above a built-in class.
 use Rattle.std.proofs.Common.{◌≡◌, ℕ, Bool, true, false, cond, ◌||◌, List, [], ◌∷◌, Some, refl, ap, subst, ◌∙◌}
-use Rattle.std.proofs.Common.{◌≡◌, ℕ, Bool, true, false, cond, ◌||◌, List, [], ◌∷◌, Option, Some, None, refl, sym, ap, subst, ◌∙◌}
 use Rattle.std.specs.List.{list_any, AllByRecursion}
 use Rattle.std.specs.Str.{bytes_eq}
 use Rattle.std.proofs.lemmas.Slice.Eq.{bytes_eq-Decides}
 use Rattle.cc_meaning.specs.declared.file.Ids.{Ids}
 use Rattle.cc_meaning.specs.declared.program.ClassKind.{ClassKind}
 use Rattle.cc_meaning.specs.declared.program.ClassKind.TheVariants.{File, BuiltIn, Array}
-use Rattle.cc_meaning.specs.declared.program.ClassKind.TheVariants.{File, BuiltIn, Outside, OutsideError, Array}
 use Rattle.cc_meaning.specs.BuiltIn.{BuiltInClass, built_in_classes, built_in_plain_classes, built_in_throwables, is_built_in, built_in_superclass, object_name, string_name, string_builder_name, system_name, print_stream_name, throwable_name, exception_name, error_name, runtime_exception_name, arithmetic_exception_name, null_pointer_exception_name, array_store_exception_name, class_cast_exception_name, index_out_of_bounds_exception_name, negative_array_size_exception_name, illegal_argument_exception_name, illegal_state_exception_name, array_index_out_of_bounds_exception_name, string_index_out_of_bounds_exception_name, linkage_error_name, virtual_machine_error_name, no_class_def_found_error_name, exception_in_initializer_error_name, incompatible_class_change_error_name, abstract_method_error_name, stack_overflow_error_name}
 use Rattle.cc_meaning_file.specs.Descriptors.{begins_with}
 use Rattle.cc_meaning_resolution.specs.Ancestry.{is_defined, outside_kind, kind_of_class, superclass_by_kind, superclass_named, Ancestry, top, up}
@@ -34,42 +32,6 @@ superclass_of_built_in ids name is = superclass_of_kind ids name BuiltIn (kind_o
 -- a built-in class below one that has its list
 below_known : (ids : Ids) (above name : List ℕ) → is_built_in name ≡ true → built_in_superclass name ≡ Some above → HasAncestry ids above → HasAncestry ids name
 below_known ids above name is stated = one_up ids name above (superclass_of_built_in ids name is ∙ stated)
-
-pub of_object : (ids : Ids) → HasAncestry ids object_name
-unfolding built_in_classes built_in_plain_classes built_in_throwables object_name string_name string_builder_name system_name print_stream_name throwable_name exception_name error_name runtime_exception_name arithmetic_exception_name null_pointer_exception_name array_store_exception_name class_cast_exception_name index_out_of_bounds_exception_name negative_array_size_exception_name illegal_argument_exception_name illegal_state_exception_name array_index_out_of_bounds_exception_name string_index_out_of_bounds_exception_name linkage_error_name virtual_machine_error_name no_class_def_found_error_name exception_in_initializer_error_name incompatible_class_change_error_name abstract_method_error_name stack_overflow_error_name
-of_object ids = (object_name ∷ [], top (superclass_of_built_in ids object_name refl ∙ refl))
-
-of_throwable : (ids : Ids) → HasAncestry ids throwable_name
-unfolding built_in_classes built_in_plain_classes built_in_throwables object_name string_name string_builder_name system_name print_stream_name throwable_name exception_name error_name runtime_exception_name arithmetic_exception_name null_pointer_exception_name array_store_exception_name class_cast_exception_name index_out_of_bounds_exception_name negative_array_size_exception_name illegal_argument_exception_name illegal_state_exception_name array_index_out_of_bounds_exception_name string_index_out_of_bounds_exception_name linkage_error_name virtual_machine_error_name no_class_def_found_error_name exception_in_initializer_error_name incompatible_class_change_error_name abstract_method_error_name stack_overflow_error_name
-of_throwable ids = below_known ids object_name throwable_name refl refl (of_object ids)
-
-pub of_exception : (ids : Ids) → HasAncestry ids exception_name
-unfolding built_in_classes built_in_plain_classes built_in_throwables object_name string_name string_builder_name system_name print_stream_name throwable_name exception_name error_name runtime_exception_name arithmetic_exception_name null_pointer_exception_name array_store_exception_name class_cast_exception_name index_out_of_bounds_exception_name negative_array_size_exception_name illegal_argument_exception_name illegal_state_exception_name array_index_out_of_bounds_exception_name string_index_out_of_bounds_exception_name linkage_error_name virtual_machine_error_name no_class_def_found_error_name exception_in_initializer_error_name incompatible_class_change_error_name abstract_method_error_name stack_overflow_error_name
-of_exception ids = below_known ids throwable_name exception_name refl refl (of_throwable ids)
-
-pub of_error : (ids : Ids) → HasAncestry ids error_name
-unfolding built_in_classes built_in_plain_classes built_in_throwables object_name string_name string_builder_name system_name print_stream_name throwable_name exception_name error_name runtime_exception_name arithmetic_exception_name null_pointer_exception_name array_store_exception_name class_cast_exception_name index_out_of_bounds_exception_name negative_array_size_exception_name illegal_argument_exception_name illegal_state_exception_name array_index_out_of_bounds_exception_name string_index_out_of_bounds_exception_name linkage_error_name virtual_machine_error_name no_class_def_found_error_name exception_in_initializer_error_name incompatible_class_change_error_name abstract_method_error_name stack_overflow_error_name
-of_error ids = below_known ids throwable_name error_name refl refl (of_throwable ids)
-
-of_runtime_exception : (ids : Ids) → HasAncestry ids runtime_exception_name
-unfolding built_in_classes built_in_plain_classes built_in_throwables object_name string_name string_builder_name system_name print_stream_name throwable_name exception_name error_name runtime_exception_name arithmetic_exception_name null_pointer_exception_name array_store_exception_name class_cast_exception_name index_out_of_bounds_exception_name negative_array_size_exception_name illegal_argument_exception_name illegal_state_exception_name array_index_out_of_bounds_exception_name string_index_out_of_bounds_exception_name linkage_error_name virtual_machine_error_name no_class_def_found_error_name exception_in_initializer_error_name incompatible_class_change_error_name abstract_method_error_name stack_overflow_error_name
-of_runtime_exception ids = below_known ids exception_name runtime_exception_name refl refl (of_exception ids)
-
-of_index_out_of_bounds_exception : (ids : Ids) → HasAncestry ids index_out_of_bounds_exception_name
-unfolding built_in_classes built_in_plain_classes built_in_throwables object_name string_name string_builder_name system_name print_stream_name throwable_name exception_name error_name runtime_exception_name arithmetic_exception_name null_pointer_exception_name array_store_exception_name class_cast_exception_name index_out_of_bounds_exception_name negative_array_size_exception_name illegal_argument_exception_name illegal_state_exception_name array_index_out_of_bounds_exception_name string_index_out_of_bounds_exception_name linkage_error_name virtual_machine_error_name no_class_def_found_error_name exception_in_initializer_error_name incompatible_class_change_error_name abstract_method_error_name stack_overflow_error_name
-of_index_out_of_bounds_exception ids = below_known ids runtime_exception_name index_out_of_bounds_exception_name refl refl (of_runtime_exception ids)
-
-of_linkage_error : (ids : Ids) → HasAncestry ids linkage_error_name
-unfolding built_in_classes built_in_plain_classes built_in_throwables object_name string_name string_builder_name system_name print_stream_name throwable_name exception_name error_name runtime_exception_name arithmetic_exception_name null_pointer_exception_name array_store_exception_name class_cast_exception_name index_out_of_bounds_exception_name negative_array_size_exception_name illegal_argument_exception_name illegal_state_exception_name array_index_out_of_bounds_exception_name string_index_out_of_bounds_exception_name linkage_error_name virtual_machine_error_name no_class_def_found_error_name exception_in_initializer_error_name incompatible_class_change_error_name abstract_method_error_name stack_overflow_error_name
-of_linkage_error ids = below_known ids error_name linkage_error_name refl refl (of_error ids)
-
-of_virtual_machine_error : (ids : Ids) → HasAncestry ids virtual_machine_error_name
-unfolding built_in_classes built_in_plain_classes built_in_throwables object_name string_name string_builder_name system_name print_stream_name throwable_name exception_name error_name runtime_exception_name arithmetic_exception_name null_pointer_exception_name array_store_exception_name class_cast_exception_name index_out_of_bounds_exception_name negative_array_size_exception_name illegal_argument_exception_name illegal_state_exception_name array_index_out_of_bounds_exception_name string_index_out_of_bounds_exception_name linkage_error_name virtual_machine_error_name no_class_def_found_error_name exception_in_initializer_error_name incompatible_class_change_error_name abstract_method_error_name stack_overflow_error_name
-of_virtual_machine_error ids = below_known ids error_name virtual_machine_error_name refl refl (of_error ids)
-
-of_incompatible_class_change_error : (ids : Ids) → HasAncestry ids incompatible_class_change_error_name
-unfolding built_in_classes built_in_plain_classes built_in_throwables object_name string_name string_builder_name system_name print_stream_name throwable_name exception_name error_name runtime_exception_name arithmetic_exception_name null_pointer_exception_name array_store_exception_name class_cast_exception_name index_out_of_bounds_exception_name negative_array_size_exception_name illegal_argument_exception_name illegal_state_exception_name array_index_out_of_bounds_exception_name string_index_out_of_bounds_exception_name linkage_error_name virtual_machine_error_name no_class_def_found_error_name exception_in_initializer_error_name incompatible_class_change_error_name abstract_method_error_name stack_overflow_error_name
-of_incompatible_class_change_error ids = below_known ids linkage_error_name incompatible_class_change_error_name refl refl (of_linkage_error ids)
 
 -- each class of these has the list of those above it
 abbrev HaveAncestries : Ids → List BuiltInClass → Type 0
@@ -141,33 +103,6 @@ all_built_in ids =
                                                         tt,
                                                       ),
                                                     ),
-all_built_in ids = (
-  of_object ids,
-    below_known ids object_name string_name refl refl (of_object ids),
-      below_known ids object_name string_builder_name refl refl (of_object ids),
-        below_known ids object_name system_name refl refl (of_object ids),
-          below_known ids object_name print_stream_name refl refl (of_object ids),
-            of_throwable ids,
-              of_exception ids,
-                of_error ids,
-                  of_runtime_exception ids,
-                    below_known ids runtime_exception_name arithmetic_exception_name refl refl (of_runtime_exception ids),
-                      below_known ids runtime_exception_name null_pointer_exception_name refl refl (of_runtime_exception ids),
-                        below_known ids runtime_exception_name array_store_exception_name refl refl (of_runtime_exception ids),
-                          below_known ids runtime_exception_name class_cast_exception_name refl refl (of_runtime_exception ids),
-                            of_index_out_of_bounds_exception ids,
-                              below_known ids runtime_exception_name negative_array_size_exception_name refl refl (of_runtime_exception ids),
-                                below_known ids runtime_exception_name illegal_argument_exception_name refl refl (of_runtime_exception ids),
-                                  below_known ids runtime_exception_name illegal_state_exception_name refl refl (of_runtime_exception ids),
-                                    below_known ids index_out_of_bounds_exception_name array_index_out_of_bounds_exception_name refl refl (of_index_out_of_bounds_exception ids),
-                                      below_known ids index_out_of_bounds_exception_name string_index_out_of_bounds_exception_name refl refl (of_index_out_of_bounds_exception ids),
-                                        of_linkage_error ids,
-                                          of_virtual_machine_error ids,
-                                            below_known ids linkage_error_name no_class_def_found_error_name refl refl (of_linkage_error ids),
-                                              below_known ids linkage_error_name exception_in_initializer_error_name refl refl (of_linkage_error ids),
-                                                of_incompatible_class_change_error ids,
-                                                  below_known ids incompatible_class_change_error_name abstract_method_error_name refl refl (of_incompatible_class_change_error ids),
-                                                    below_known ids virtual_machine_error_name stack_overflow_error_name refl refl (of_virtual_machine_error ids),
                                                   ),
                                                 ),
                                               ),
@@ -192,8 +127,6 @@ all_built_in ids = (
         ),
       ),
     )
-    ),
-  ),
 
 one_of_all : (ids : Ids) (name : List ℕ) (classes : List BuiltInClass) → HaveAncestries ids classes → list_any (λ (class : BuiltInClass). bytes_eq class.name name) classes ≡ true → HasAncestry ids name
 one_of_all ids name [] all is = absurd cc

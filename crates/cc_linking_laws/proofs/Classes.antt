@@ -1,6 +1,5 @@
 -- There are members for each definition of the classes that a file spells, and what they name is there.
 use Rattle.std.proofs.Common.{◌≡◌, ◌≢◌, ◌⊎◌, inl, inr, ℕ, zero, suc, ◌<◌, Bool, true, false, ◌||◌, List, [], ◌∷◌, ◌++◌, length, Option, Some, None, slice_get, unwrap_or, refl, sym, ap, subst, ◌∙◌, arith}
-use Rattle.std.proofs.Common.{◌≡◌, ◌≢◌, ◌⊎◌, inl, inr, ℕ, zero, suc, ◌+◌, ◌<◌, Bool, true, false, ◌||◌, List, [], ◌∷◌, ◌++◌, length, Option, Some, None, slice_get, unwrap_or, refl, sym, ap, subst, ◌∙◌, arith}
 use Rattle.std.specs.Prelude.{Contains, is_some}
 use Rattle.std.proofs.lemmas.List.Elements.{Contains-append_cases}
 use Rattle.std.proofs.lemmas.Option.{slice_get_within, get_or_from_slice_get, option_and_then_some}
@@ -22,7 +21,6 @@ use Rattle.cc_meaning_classes.specs.declared.items.StatedMethod.{StatedMethod}
 use Rattle.cc_meaning_classes.specs.declared.items.ValueKind.{ValueKind}
 use Rattle.cc_meaning_classes.specs.declared.items.ValueKind.TheVariants.{Boolean, Byte, Short, Char, Int, Long, Text, Reference}
 use Rattle.cc_meaning_classes.specs.Classes.{EachPair, SpellsClass, SpellsSoundMethod}
-use Rattle.cc_meaning_classes.specs.Classes.{EachPair, SpellsClass, SpellsClasses, SpellsSoundMethod}
 use Rattle.cc_meaning_classes.specs.CodeItems.{unit_count, handlers_at, HasSoundCode, has_flag, has_no_code}
 use Rattle.cc_meaning_classes.specs.Members.{SpellsMembers, FieldStands, MethodStands}
 use Rattle.cc_meaning_classes.specs.Rows.{IsFieldOf, IsMethodOf}
@@ -31,8 +29,6 @@ use Rattle.cc_meaning_classes.specs.Tries.{IsValueType, PairStands, CatchAllStan
 use Rattle.cc_meaning_classes.specs.Values.{SpellsValue, SpellsValues, ValueStands}
 use Rattle.cc_meaning_program.specs.Named.{type_name}
 use Rattle.cc_meaning_linking.specs.Rows.{IsTypeRow, CatchFits, TriesFit, MemberFits, MembersFit, SpelledClassesFit}
-use Rattle.cc_meaning_classes.specs.Tries.{IsValueType, PairStands, CatchAllStands, catch_all, HandlerStands, SpellsTries, TryStands, HasTries, HasCode, SpellsMethod}
-use Rattle.cc_meaning_linking.specs.Rows.{IsTypeRow, CatchFits, TriesFit, MemberFits, MembersFit, FitClasses, SpelledClassesFit}
 
 -- ---- lists
 
@@ -131,7 +127,6 @@ spelled_tries_fit file ids at tries spelled try catch named caught =
     of_try from one next stands other is =
         of_handlers stands.handler.handler (handler_at spelled.handlers stands.handler.place stands.handler.handler stands.handler.there) other
         (subst (λ catches. Contains catches other) (sym stands.handler.caught) is)
-          (subst (λ catches. Contains catches other) (sym stands.handler.caught) is)
 
 tries_fit : (file : List ℕ) (ids : Ids) (at : ℕ) (tries : List RawTry) → HasTries file ids at tries → TriesFit ids tries
 tries_fit file ids at tries (inl (none, same)) try catch named caught = absurd (none_in try (subst (λ all. Contains all try) same named))
@@ -187,8 +182,6 @@ members_of file ids stated members (inr (some, listed)) = (
   of_both (λ (method : StatedMethod). IsMethodOf ids stated.class method.row) members.methods listed.direct_methods listed.virtual_methods listed.methods
       (of_each (MethodStands file ids stated.class true) _ (method_of file ids stated.class true) listed.direct_methods _ listed.direct_list.end listed.direct_list.each)
       (of_each (MethodStands file ids stated.class false) _ (method_of file ids stated.class false) listed.virtual_methods _ listed.virtual_list.end listed.virtual_list.each),
-  of_none (λ (method : StatedMethod). IsMethodOf ids stated.class method.row) members.methods (ap (λ (all : Members). all.methods) same)
-    (of_each (MethodStands file ids stated.class false) _ (method_of file ids stated.class false) listed.virtual_methods _ listed.virtual_list.end listed.virtual_list.each)
 )
 
 -- ---- values

@@ -1,6 +1,5 @@
 -- Interfaces, each followed by those above it.
 use Rattle.std.proofs.Common.{◌≡◌, inr, ℕ, suc, List, [], ◌∷◌, ◌++◌, map, Option, Some, None, slice_get, refl, arith}
-use Rattle.std.proofs.Common.{◌≡◌, ◌⊎◌, inl, inr, ℕ, zero, suc, ◌+◌, ◌<◌, List, [], ◌∷◌, ◌++◌, length, map, Option, Some, None, slice_get, refl, sym, ap, subst, ◌∙◌, arith}
 use Rattle.std.specs.Prelude.{Contains}
 use Rattle.cc_meaning.specs.declared.file.ClassRow.{ClassRow}
 use Rattle.cc_meaning.specs.declared.file.Ids.{Ids}
@@ -12,9 +11,6 @@ use Rattle.cc_meaning_resolution.specs.Ancestry.{definition_of, stated_interface
 use Rattle.cc_meaning_linking.specs.Climbing.{InterfacesHaveLists}
 use Rattle.cc_linking_laws.proofs.Upward.{Passes, upward}
 use Rattle.cc_linking_laws.proofs.Definitions.{defined}
-use Rattle.cc_meaning_program.specs.Definitions.{Defines, Implements}
-use Rattle.cc_linking_laws.proofs.Upward.{Step, Passes, upward}
-use Rattle.cc_linking_laws.proofs.Definitions.{Defined, defined}
 
 -- these interfaces have the list of those above them
 abbrev HaveList : Ids → List (List ℕ) → Type 0

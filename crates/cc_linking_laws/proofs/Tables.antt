@@ -1,6 +1,5 @@
 -- The rows of the tables that a file spells name what is there.
 use Rattle.std.proofs.Common.{◌≡◌, ◌⊎◌, inl, inr, ℕ, ◌<◌, Bool, List, [], length, get_or, ◌≤◌, Option, Some, None, slice_get, unwrap_or, refl, sym, ap, subst, ◌∙◌, arith}
-use Rattle.std.proofs.Common.{◌≡◌, ◌≢◌, ◌⊎◌, inl, inr, ℕ, ◌+◌, ◌<◌, Bool, true, List, [], length, get_or, ◌≤◌, Option, Some, None, slice_get, unwrap_or, refl, sym, ap, subst, ◌∙◌, arith}
 use Rattle.std.specs.Prelude.{Contains, option_and_then}
 use Rattle.std.proofs.lemmas.Option.{slice_get_within, slice_get_cases, slice_get_read}
 use Rattle.cc_meaning.specs.declared.file.ClassRow.{ClassRow}
@@ -15,9 +14,6 @@ use Rattle.cc_meaning_file.specs.Ids.{SpellsIds, ListsTypes, PrototypeSpelled, F
 use Rattle.cc_meaning_file.specs.Laws.{OneText}
 use Rattle.cc_meaning_file.specs.RowForms as forms
 use Rattle.cc_meaning_file.specs.Tables.{IsRow}
-use Rattle.cc_meaning_file.specs.Ids.{SpellsIds, EachSpelled, ListsTypes, TextSpelled, TypeSpelled, PrototypeSpelled, FieldSpelled, MethodSpelled, ClassSpelled, RowStated}
-use Rattle.cc_meaning_file.specs.Numbers.{u16_at, u32_at}
-use Rattle.cc_meaning_file.specs.Tables.{IsRow, row_at, row_count}
 use Rattle.cc_meaning_program.specs.Named.{type_name}
 use Rattle.cc_meaning_linking.specs.Rows.{IsTypeRow, PrototypeFits, FieldFits, MethodFits, ClassFits, FitTables, SpelledTablesFit}
 

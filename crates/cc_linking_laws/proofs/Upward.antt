@@ -5,7 +5,6 @@ use Rattle.std.proofs.lemmas.Option.{slice_get_within}
 use Rattle.cc_meaning.specs.declared.file.Ids.{Ids}
 use Rattle.cc_meaning.specs.declared.file.RawClass.{RawClass}
 use Rattle.cc_meaning_program.specs.Definitions.{Extends, Implements, IsAbove, next, further}
-use Rattle.cc_meaning_program.specs.Definitions.{Defines, Extends, Implements, IsAbove, next, further}
 use Rattle.cc_meaning_program.specs.ClassFaults.{AreSound}
 
 -- ---- numbers of a list
