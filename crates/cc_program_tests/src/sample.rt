@@ -156,3 +156,40 @@ pub fn has_unused_opcode(alloc: Global) -> Result<Vec<u8>, AllocError> {
     };
     file(alloc, &TABLES, &[class_a(&[main])])
 }
+
+/// The tables of a file with two classes that have a `main` each.
+const TWO: Tables<'static> = Tables {
+    texts: &[
+        "LA;",
+        "LB;",
+        "Ljava/lang/Object;",
+        "[Ljava/lang/String;",
+        "V",
+        "main",
+    ],
+    types: &[0, 1, 2, 3, 4],
+    protos: &[(4, &[3])],
+    fields: &[],
+    methods: &[(0, 0, 5), (1, 0, 5)],
+};
+
+/// Class B and then class A, each with a `main` that returns at once.
+pub fn has_two_mains(alloc: Global) -> Result<Vec<u8>, AllocError> {
+    let of_a = Method {
+        step: 0,
+        ins: 1,
+        units: &[0x000e],
+    };
+    let of_b = Method { step: 1, ..of_a };
+    let a = Class {
+        class: 0,
+        superclass: 2,
+        methods: &[of_a],
+    };
+    let b = Class {
+        class: 1,
+        superclass: 2,
+        methods: &[of_b],
+    };
+    file(alloc, &TWO, &[b, a])
+}

@@ -1,7 +1,7 @@
 //! A program, read as a whole.
 
 use crate::reading::text;
-use crate::sample::prints_sum;
+use crate::sample::{has_two_mains, prints_sum};
 use cc_meaning::instruction::{Insn, MethodRef};
 use cc_meaning::program::{Code, Method, MethodKind, Program};
 use cc_program::read_dex;
@@ -188,6 +188,27 @@ fn reads_code(rt: HostRuntime) -> Result<(), Fail> {
     for (placed, (at, units, method)) in code.insns.iter().zip(wanted) {
         assert_eq!(rt; (placed.at, placed.units), (at, units));
         assert_eq!(rt; invoked(&placed.insn), method, "at {at}");
+    }
+    Ok(())
+}
+
+/// The name of the class whose method a program begins with.
+fn main_class(program: &Program) -> Option<&[u16]> {
+    let main = program.methods.get(program.main as usize)?;
+    let class = program.classes.get(main.class as usize)?;
+    Some(class.name.as_slice())
+}
+
+#[test]
+fn begins_with_the_main_class(rt: HostRuntime) -> Result<(), Fail> {
+    let alloc = rt.alloc();
+    let file = has_two_mains(alloc)?;
+    for (asked, want) in [(None, "LB;"), (Some("LA;"), "LA;"), (Some("LB;"), "LB;")] {
+        let program = read_dex(alloc, &file, asked)?;
+        let Some(class) = main_class(&program) else {
+            return Err("no class")?;
+        };
+        assert_eq!(rt; text(alloc, class)?.as_str(), want);
     }
     Ok(())
 }
