@@ -1,0 +1,12 @@
+pub mod Matches
+pub mod Showing
+pub mod Mains
+pub mod Assembly
+pub mod Splitting
+pub mod MainClasses
+pub mod MainPlans
+pub mod MainNames
+pub mod Building
+pub mod Whole
+pub mod OneSpelled
+pub mod Faulty

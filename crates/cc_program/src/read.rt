@@ -1,0 +1,58 @@
+//! From the bytes of a file to its program.
+
+ghost use Rattle.std.specs.Prelude.{◌≡◌, ◌≢◌, IfOk, IfErr};
+ghost use Rattle.std.specs.Option.{option_copied};
+ghost use Rattle.cc_meaning.specs.declared.program.Program.{Program};
+ghost use Rattle.cc_meaning_typing.specs.WellFormed.{IsWellFormed};
+ghost use Rattle.cc_program.specs.Asked.{asked_class};
+ghost use Rattle.cc_program.specs.Reading.{SpellsProgram, IsReadFault, OneSpelledProgram};
+
+use crate::build::build_program;
+use crate::fault::ReadFault;
+use cc_dexcode::read_classes;
+use cc_dexids::read_ids;
+use cc_linking_laws::{spelled_classes_fit, spelled_tables_fit};
+use cc_meaning::program::Program;
+use cc_meaning_classes::one_classes;
+use cc_meaning_file::one_ids;
+use cc_meaning_program::{
+    sound_bodies_have_none, sound_classes_have_no_fault, spelled_code_is_small,
+};
+use cc_meaning_resolution::{files_have_descriptors, one_program};
+use std::alloc::Global;
+
+/// A file spells one program at most, for each main class that may be asked for.
+pub fn one_spelled_program()
+    ensures { OneSpelledProgram }
+{
+    one_ids();
+    one_classes();
+    files_have_descriptors();
+    one_program();
+}
+
+/// The program that a file spells, with this main class, or with the first that has a main method.
+///
+/// # Errors
+///
+/// The first fault. `Dex`: of the header and the tables, then of the classes' data. `Program`: as `build_program` names it. At any time that there is
+/// no memory.
+///
+/// Source: Dalvik Executable format, section File layout.
+pub fn read_dex(alloc: Global, file: &[u8], main: Option<&str>) -> Result<Program, ReadFault>
+    ensures spelled { IfOk result (SpellsProgram file.now (asked_class (option_copied main.entry))) }
+    ensures well_formed { IfOk result IsWellFormed }
+    ensures fault { IfErr result (λ fault. fault ≢ ReadFault.Memory → IsReadFault file.now (asked_class (option_copied main.entry)) fault) }
+    ensures refused { IfErr result (λ fault. fault ≢ ReadFault.Memory → ((program : Program) → ¬ SpellsProgram file.now (asked_class (option_copied main.entry)) program)) }
+{
+    spelled_tables_fit();
+    spelled_classes_fit();
+    spelled_code_is_small();
+    one_ids();
+    one_classes();
+    sound_classes_have_no_fault();
+    sound_bodies_have_none();
+    let ids = read_ids(alloc, file)?;
+    let classes = read_classes(alloc, file, &ids)?;
+    Ok(build_program(alloc, &ids, &classes, main)?)
+}
