@@ -2,10 +2,11 @@
 
 use crate::reading::expect;
 use crate::sample::{
-    defines_twice, extends_itself, extends_nothing, extends_string, has_unused_opcode,
+    adds_floats, defines_twice, extends_itself, extends_nothing, extends_string, has_unused_opcode,
     invokes_no_row, misnames_main, prints_sum, returns_double,
 };
 use crate::writer::summed;
+use std::alloc::{AllocError, Global};
 use std::test::Fail;
 
 /// The places of the header's sum, of the signature and of the size.
@@ -40,6 +41,34 @@ fn judges_the_sums(rt: HostRuntime) -> Result<(), Fail> {
     expect(&rt, alloc, &other, None, "Dex BadSignature")
 }
 
+/// In which bits the stated sum and that of the bytes differ was reckoned by Python's `zlib`.
+#[test]
+fn judges_a_changed_byte(rt: HostRuntime) -> Result<(), Fail> {
+    let alloc = rt.alloc();
+    let mut file = prints_sum(alloc)?;
+    turn(file.as_mut_slice(), SIGNATURE);
+    expect(&rt, alloc, &file, None, "Dex BadChecksum 35127299")
+}
+
+/// The first 111 bytes of a file, one fewer than a header has.
+fn cut(alloc: Global, file: &[u8]) -> Result<Vec<u8>, AllocError> {
+    match file.split_at_checked(111) {
+        Some((front, _)) => Vec::from_slice(alloc, front),
+        None => Ok(Vec::new(alloc)),
+    }
+}
+
+#[test]
+fn judges_the_beginning(rt: HostRuntime) -> Result<(), Fail> {
+    let alloc = rt.alloc();
+    let file = prints_sum(alloc)?;
+    let mut front = cut(alloc, &file)?;
+    expect(&rt, alloc, &front, None, "Dex BadSize")?;
+    turn(front.as_mut_slice(), 0);
+    expect(&rt, alloc, &front, None, "Dex NotDex035")?;
+    expect(&rt, alloc, &[], None, "Dex NotDex035")
+}
+
 #[test]
 fn judges_classes(rt: HostRuntime) -> Result<(), Fail> {
     let alloc = rt.alloc();
@@ -68,6 +97,7 @@ fn judges_code(rt: HostRuntime) -> Result<(), Fail> {
             has_unused_opcode(alloc)?,
             "Insn LA;->main([Ljava/lang/String;)V 2 Unused",
         ),
+        (adds_floats(alloc)?, "Insn LA;->u()V 0 Float"),
     ];
     for (file, want) in &cases {
         expect(&rt, alloc, file, None, want)?;

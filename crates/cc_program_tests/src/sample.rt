@@ -68,6 +68,45 @@ const TABLES: Tables<'static> = Tables {
     ],
 };
 
+/// The row of the text `u`.
+const U: u32 = 14;
+
+/// Those tables, and a row of methods behind the others: `u()V` of class A.
+const TABLES_WITH_U: Tables<'static> = Tables {
+    texts: &[
+        "LA;",
+        "Ljava/lang/Object;",
+        "Ljava/lang/String;",
+        "[Ljava/lang/String;",
+        "Ljava/lang/System;",
+        "Ljava/io/PrintStream;",
+        "I",
+        "V",
+        "D",
+        "main",
+        "mein",
+        "half",
+        "println",
+        "out",
+        "u",
+    ],
+    types: &[0, 1, 2, 3, 4, 5, 6, 7, 8],
+    protos: &[
+        (VOID, &[STRINGS]),
+        (VOID, &[INT]),
+        (DOUBLE, &[]),
+        (VOID, &[]),
+    ],
+    fields: &[(SYSTEM, PRINT_STREAM, OUT)],
+    methods: &[
+        (A as u16, 0, MAIN),
+        (A as u16, 0, MEIN),
+        (A as u16, 2, HALF),
+        (PRINT_STREAM, 1, PRINTLN),
+        (A as u16, 3, U),
+    ],
+};
+
 /// A `main` that prints 3 + 4: `sget-object v0, System.out`, `const/4 v1, 3`, `const/4 v2, 4`, `add-int/2addr v1, v2`,
 /// `invoke-virtual {v0, v1}, println(I)V`, `return-void`.
 const PRINTS_SUM: Method<'static> = Method {
@@ -192,4 +231,14 @@ pub fn has_two_mains(alloc: Global) -> Result<Vec<u8>, AllocError> {
         methods: &[of_b],
     };
     file(alloc, &TWO, &[b, a])
+}
+
+/// That program with a method `u()V`: `add-float v0, v0, v0`, `return-void`.
+pub fn adds_floats(alloc: Global) -> Result<Vec<u8>, AllocError> {
+    let adds = Method {
+        step: 4,
+        ins: 0,
+        units: &[0x00a6, 0, 0x000e],
+    };
+    file(alloc, &TABLES_WITH_U, &[class_a(&[PRINTS_SUM, adds])])
 }
