@@ -21,7 +21,7 @@ use Rattle.cc_meaning_building.specs.declared.content.ListedClass.{ListedClass}
 use Rattle.cc_meaning_building.specs.Forms.{is_unit, is_within, static_fields}
 use Rattle.cc_meaning_building.specs.Members.{AreRawClasses}
 use Rattle.cc_meaning_building.specs.Tables.{AreTables}
-use Rattle.cc_meaning_building.specs.Written.{FitsFormat}
+use Rattle.cc_meaning_building.specs.Written.{AreSameTables, FitsFormat}
 
 -- ---- whether what was added suits
 
@@ -77,12 +77,14 @@ IsAdded ids classes other = ⊥
 
 -- ---- the file
 
--- What a file of these tables and classes is when it is read again. Its header and tables have no fault; its classes have none but where they were added with it;
--- and where they suit, they are what the file spells.
+-- What a file of these tables and classes is when it is read again. Its header and tables have no fault, and are these tables, with offsets of members and
+-- values besides; its classes have none but where they were added with it; and where they suit, they are what the file spells.
 pub record IsReadAgain (ids : Ids) (classes : List RawClass) (file : List ℕ) : Type 0 where
-  pub spelled : SpellsIds file ids
-  pub faults : (fault : DexFault) → IsFirstCause file ids fault → IsAdded ids classes fault
-  pub suited : All (IsSuited ids) classes → SpellsClasses file ids classes
+  pub read : Ids
+  pub same : AreSameTables read ids
+  pub spelled : SpellsIds file read
+  pub faults : (fault : DexFault) → IsFirstCause file read fault → IsAdded ids classes fault
+  pub suited : All (IsSuited ids) classes → SpellsClasses file read classes
 
 -- The file that is built from what was added: tables of all that is named, and the members in a file's form; within the bounds of the format it is read again.
 pub record Built (content : List ListedClass) (file : List ℕ) : Type 0 where

@@ -25,10 +25,13 @@ use Rattle.cc_meaning_classes.specs.Tries.{IsValueType, SpellsMethod}
 use Rattle.cc_meaning_classes.specs.Values.{SpellsValues}
 use Rattle.cc_meaning_program.specs.Named.{text_of}
 use Rattle.cc_meaning_linking.specs.Rows.{FitTables}
-use Rattle.cc_meaning_building.specs.Built.{HasSuitedCode, HasSuitedTries, HasSuitedValues}
+use Rattle.cc_meaning_building.specs.declared.content.ListedClass.{ListedClass}
+use Rattle.cc_meaning_building.specs.Built.{HasSuitedCode, HasSuitedTries, HasSuitedValues, IsReadAgain}
 use Rattle.cc_meaning_building.specs.Forms.{u16_form, u32_form, uleb_form, sleb_form, text_form, types_form}
-use Rattle.cc_meaning_building.specs.Members.{FieldBefore, MethodBefore}
-use Rattle.cc_meaning_building.specs.Written.{AreMembersWritten, AreValuesWritten, IsMethodWritten, IsSmallClass, IsSmallMethod, MethodFitsFormat}
+use Rattle.cc_meaning_building.specs.Members.{AreRawClasses, FieldBefore, MethodBefore}
+use Rattle.cc_meaning_building.specs.Tables.{AreTables}
+use Rattle.cc_meaning_building.specs.WellNamed.{WellNamed}
+use Rattle.cc_meaning_building.specs.Written.{AreMembersWritten, AreValuesWritten, FitsFormat, IsMethodWritten, IsWritten, IsSmallClass, IsSmallMethod, MethodFitsFormat}
 
 -- ---- numbers, texts and lists of types
 
@@ -110,3 +113,10 @@ WrittenTries = (file : List ℕ) (ids : Ids) (stated : StatedMethod) (method : R
 abbrev pub WrittenValues : Type 0
 WrittenValues = (file : List ℕ) (ids : Ids) (stated : ClassRow) (class : RawClass) → length file ≤ longest_file → IsSmallClass class → AllPairs FieldBefore class.fields →
     AreValuesWritten file ids stated class → HasSuitedValues ids class → SpellsValues file ids class.fields stated.values_at class.values
+
+-- ---- the whole file
+
+-- what is written for what was added is read again
+abbrev pub WrittenIsReadAgain : Type 0
+WrittenIsReadAgain = (content : List ListedClass) (ids : Ids) (classes : List RawClass) (file : List ℕ) → WellNamed content → AreTables content ids → AreRawClasses content ids classes →
+    FitsFormat file ids classes → IsWritten ids classes file → IsReadAgain ids classes file
