@@ -83,8 +83,8 @@ pub record IsReadAgain (ids : Ids) (classes : List RawClass) (file : List ℕ) :
   pub read : Ids
   pub same : AreSameTables read ids
   pub spelled : SpellsIds file read
-  pub faults : (fault : DexFault) → IsFirstCause file read fault → IsAdded ids classes fault
-  pub suited : All (IsSuited ids) classes → SpellsClasses file read classes
+  pub faults : (fault : DexFault) → IsFirstCause file read fault → IsAdded read classes fault
+  pub suited : All (IsSuited read) classes → SpellsClasses file read classes
 
 -- The file that is built from what was added: tables of all that is named, and the members in a file's form; within the bounds of the format it is read again.
 pub record Built (content : List ListedClass) (file : List ℕ) : Type 0 where
