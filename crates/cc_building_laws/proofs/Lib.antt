@@ -1,0 +1,4 @@
+pub mod Pairs
+pub mod Own
+pub mod Handlers
+pub mod ReadAgain
