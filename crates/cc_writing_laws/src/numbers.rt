@@ -1,0 +1,22 @@
+ghost use Rattle.cc_meaning_building.specs.Laws.{WrittenU16, WrittenU32, WrittenUleb};
+ghost use Rattle.cc_writing_laws.specs.Standing.{UlebLength};
+
+/// A number of 16 bits is read where it is written.
+pub fn written_u16()
+    ensures { WrittenU16 }
+{}
+
+/// A number of 32 bits is read where it is written.
+pub fn written_u32()
+    ensures { WrittenU32 }
+{}
+
+/// A number in ULEB128 is spelled where it is written.
+pub fn written_uleb()
+    ensures { WrittenUleb }
+{}
+
+/// A number in ULEB128 takes one to five bytes.
+pub fn uleb_length()
+    ensures { UlebLength }
+{}
