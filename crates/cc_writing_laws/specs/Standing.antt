@@ -1,8 +1,8 @@
 -- How parts stand in a list of bytes.
-use Rattle.std.specs.Prelude.{◌≡◌, ◌≢◌, ℕ, ◌+◌, ◌*◌, ◌<◌, ◌≤◌, List, [], ◌++◌, length, slice_get, Some}
+use Rattle.std.specs.Prelude.{◌≡◌, ◌≢◌, ℕ, ◌+◌, ◌*◌, ◌<◌, ◌≤◌, Bool, List, [], ◌++◌, length, slice_get, Some}
 use Rattle.std.specs.List.{flat_map}
 use Rattle.cc_meaning_file.specs.Numbers.{Stands, Within}
-use Rattle.cc_meaning_building.specs.Forms.{u16_form, uleb_form}
+use Rattle.cc_meaning_building.specs.Forms.{sleb_form, u16_form, uleb_form}
 
 -- two parts that stand one behind the other stand as one
 abbrev pub StandsTogether : Type 0
@@ -31,3 +31,7 @@ UnitsStand = (file : List ℕ) (at : ℕ) (units : List ℕ) → Stands file at 
 -- a number in ULEB128 takes one to five bytes
 abbrev pub UlebLength : Type 0
 UlebLength = (n : ℕ) → (0 < length (uleb_form n)) × (length (uleb_form n) ≤ 5)
+
+-- so does a signed one in SLEB128
+abbrev pub SlebLength : Type 0
+SlebLength = (negative : Bool) (size : ℕ) → (0 < length (sleb_form negative size)) × (length (sleb_form negative size) ≤ 5)

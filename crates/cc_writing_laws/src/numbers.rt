@@ -1,5 +1,5 @@
-ghost use Rattle.cc_meaning_building.specs.Laws.{WrittenU16, WrittenU32, WrittenUleb};
-ghost use Rattle.cc_writing_laws.specs.Standing.{UlebLength};
+ghost use Rattle.cc_meaning_building.specs.Laws.{WrittenSleb, WrittenU16, WrittenU32, WrittenUleb};
+ghost use Rattle.cc_writing_laws.specs.Standing.{SlebLength, UlebLength};
 
 /// A number of 16 bits is read where it is written.
 pub fn written_u16()
@@ -16,7 +16,17 @@ pub fn written_uleb()
     ensures { WrittenUleb }
 {}
 
+/// A signed number in SLEB128 is spelled where it is written.
+pub fn written_sleb()
+    ensures { WrittenSleb }
+{}
+
 /// A number in ULEB128 takes one to five bytes.
 pub fn uleb_length()
     ensures { UlebLength }
+{}
+
+/// A number in SLEB128 takes one to five bytes.
+pub fn sleb_length()
+    ensures { SlebLength }
 {}
