@@ -1,6 +1,6 @@
 -- Signed numbers in LEB128 are spelled where they are written.
 use Rattle.std.proofs.Common.{◌≡◌, ℕ, zero, suc, ◌+◌, ◌-◌, ◌*◌, ◌/◌, ◌%◌, ◌^◌, ◌<◌, ◌≤◌, ◌⊎◌, inl, inr, Bool, true, false, cond, nat_lt, nat_le, List, [], ◌∷◌, ◌++◌, length, refl, sym, ap, subst, ◌∙◌, arith, ℤ, pos}
-use Rattle.std.specs.Prelude.{neg_ℤ, ◌+ℤ◌, ◌*ℤ◌, ◌≤ℤ◌, ◌<ℤ◌}
+use Rattle.std.specs.Prelude.{if◌then◌else◌, neg_ℤ, ◌+ℤ◌, ◌*ℤ◌, ◌≤ℤ◌, ◌<ℤ◌}
 use Rattle.std.proofs.lemmas.Bool.{cases_lt, lt-ltb, le-ltb, le-leb, lt-leb}
 use Rattle.std.proofs.lemmas.Int.{ints}
 use Rattle.std.proofs.Math.Nat.{pow-suc}
@@ -36,12 +36,11 @@ one_group more n = record { some = omega arith; few = omega arith; form = omega 
 sleb_is : (more n : ℕ) (negative : Bool) → IsSleb more (sleb_within more n negative)
 unfolding sleb_within
 sleb_is zero n negative = one_group zero n
-sleb_is (suc more) n negative = from (is_last negative more n) refl
+sleb_is (suc more) n negative = from (sleb_is more (n / 128) negative) (is_last negative more n) refl
   where
-    from : (last : Bool) → is_last negative more n ≡ last → IsSleb (suc more) (sleb_within (suc more) n negative)
-    from true last = subst (IsSleb (suc more)) (sym (sleb_last more n negative last)) (one_group (suc more) n)
-    from false next =
-        let rest = sleb_is more (n / 128) negative in
+    from : IsSleb more (sleb_within more (n / 128) negative) → (last : Bool) → is_last negative more n ≡ last → IsSleb (suc more) (sleb_within (suc more) n negative)
+    from rest true last = subst (IsSleb (suc more)) (sym (sleb_last more n negative last)) (one_group (suc more) n)
+    from rest false next =
         subst (IsSleb (suc more)) (sym (sleb_next more n negative next)) (record {
           some = omega arith;
           few = omega (arith, rest.few);
@@ -103,24 +102,21 @@ next_value more n negative rest value is front =
 positive_value : (more n : ℕ) → n < 64 * 128 ^ more → signed_leb_value (sleb_within more n false) ≡ pos n
 unfolding sleb_within
 positive_value zero n low = low_value n (omega (arith, low))
-positive_value (suc more) n low = from (cases_lt n 64)
+positive_value (suc more) n low = from (positive_value more (n / 128) (omega (arith, low, pow-suc 128 more))) (cases_lt n 64)
   where
-    inner : n / 128 < 64 * 128 ^ more
-    inner = omega (arith, low, pow-suc 128 more)
-
     whole : n % 128 + 128 * (n / 128) ≡ n
     whole = omega arith
 
-    from : (n < 64) ⊎ (64 ≤ n) → signed_leb_value (sleb_within (suc more) n false) ≡ pos n
-    from (inl small) = ap signed_leb_value (sleb_last more n false (lt-ltb n 64 small)) ∙ low_value n small
-    from (inr large) =
+    from : signed_leb_value (sleb_within more (n / 128) false) ≡ pos (n / 128) → (n < 64) ⊎ (64 ≤ n) → signed_leb_value (sleb_within (suc more) n false) ≡ pos n
+    from rest (inl small) = ap signed_leb_value (sleb_last more n false (lt-ltb n 64 small)) ∙ low_value n small
+    from rest (inr large) =
         ap signed_leb_value (sleb_next more n false (le-ltb n 64 large))
-        ∙ next_value more n false (pos (n / 128)) (pos n) (positive_value more (n / 128) inner) (front_low (n % 128) (n / 128) ∙ ap pos whole)
+        ∙ next_value more n false (pos (n / 128)) (pos n) rest (front_low (n % 128) (n / 128) ∙ ap pos whole)
 
 negative_value : (more n m : ℕ) → n + m ≡ 128 ^ suc more → m ≤ 64 * 128 ^ more → signed_leb_value (sleb_within more n true) ≡ neg_ℤ (pos m)
 unfolding sleb_within
 negative_value zero n m is few = high_value n m 1 (omega (arith, is)) (omega (arith, few))
-negative_value (suc more) n m is few = from (cases_lt 64 m)
+negative_value (suc more) n m is few = from (λ k others few_others. negative_value more (n / 128) k others few_others) (cases_lt 64 m)
   where
     power : 128 ^ (more + 2) ≡ 128 * 128 ^ suc more
     power = let e : more + 2 ≡ suc (suc more) = omega arith in ap (λ k. 128 ^ k) e ∙ omega (arith, pow-suc 128 (suc more))
@@ -131,16 +127,19 @@ negative_value (suc more) n m is few = from (cases_lt 64 m)
     last : m ≤ 64 → signed_leb_value (sleb_within (suc more) n true) ≡ neg_ℤ (pos m)
     last small = ap signed_leb_value (sleb_last more n true (le-leb (128 ^ (more + 2) - 64) n (omega (arith, power, total, small)))) ∙ high_value n m (128 ^ suc more) total small
 
-    next : 64 < m → (k : ℕ) → n / 128 + k ≡ 128 ^ suc more → signed_leb_value (sleb_within (suc more) n true) ≡ neg_ℤ (pos m)
-    next large k others =
+    next : 64 < m → (k : ℕ) → n / 128 + k ≡ 128 ^ suc more → signed_leb_value (sleb_within more (n / 128) true) ≡ neg_ℤ (pos k) → signed_leb_value (sleb_within (suc more) n true) ≡ neg_ℤ (pos m)
+    next large k others rest =
         ap signed_leb_value (sleb_next more n true (lt-leb (128 ^ (more + 2) - 64) n (omega (arith, power, total, large))))
-        ∙ next_value more n true (neg_ℤ (pos k)) (neg_ℤ (pos m))
-            (negative_value more (n / 128) k others (omega (arith, total, others, few, pow-suc 128 more)))
-            (front_high (n % 128) k m (omega (arith, total, others)))
+        ∙ next_value more n true (neg_ℤ (pos k)) (neg_ℤ (pos m)) rest (front_high (n % 128) k m (omega (arith, total, others)))
 
-    from : (64 < m) ⊎ (m ≤ 64) → signed_leb_value (sleb_within (suc more) n true) ≡ neg_ℤ (pos m)
-    from (inl large) = next large (128 ^ suc more - n / 128) (omega (arith, total))
-    from (inr small) = last small
+    bound : (k : ℕ) → n / 128 + k ≡ 128 ^ suc more → k ≤ 64 * 128 ^ more
+    bound k others = omega (arith, total, others, few, pow-suc 128 more)
+
+    from : ((k : ℕ) → n / 128 + k ≡ 128 ^ suc more → k ≤ 64 * 128 ^ more → signed_leb_value (sleb_within more (n / 128) true) ≡ neg_ℤ (pos k)) → (64 < m) ⊎ (m ≤ 64) → signed_leb_value (sleb_within (suc more) n true) ≡ neg_ℤ (pos m)
+    from rest (inl large) =
+        let others : n / 128 + (128 ^ suc more - n / 128) ≡ 128 ^ suc more = omega (arith, total) in
+        next large (128 ^ suc more - n / 128) others (rest (128 ^ suc more - n / 128) others (bound (128 ^ suc more - n / 128) others))
+    from rest (inr small) = last small
 
 signed_fits : (negative : Bool) (size : ℕ) → size < 2 ^ 31 → FitsI32 (signed negative size)
 signed_fits true size small = (omega (arith, ints, small), omega (arith, ints, small))
