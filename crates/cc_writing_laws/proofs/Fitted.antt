@@ -9,11 +9,11 @@ use Rattle.cc_meaning.specs.declared.file.MethodRow.{MethodRow}
 use Rattle.cc_meaning.specs.declared.file.ProtoRow.{ProtoRow}
 use Rattle.cc_meaning_file.specs.declared.table.Table.{Table}
 use Rattle.cc_meaning_file.specs.declared.table.Table.TheVariants.{Texts, Types, Prototypes, Fields, Methods, Classes}
-use Rattle.cc_meaning_file.specs.Descriptors.{dimensions, names_class, names_reference, names_value, IsDescriptor, IsPaired, IsValue, IsValueDescriptor}
+use Rattle.cc_meaning_file.specs.Descriptors.{dimensions, names_class, names_reference, names_value, IsDescriptor, IsPaired, IsValue}
 use Rattle.cc_meaning_file.specs.Faults.{type_text, params_at, interfaces_at, no_row}
 use Rattle.cc_meaning_file.specs.Ids.{ListsTypes, PrototypeSpelled, FieldSpelled, MethodSpelled, ClassSpelled, RowStated, TablesSpelled, TextSpelled}
 use Rattle.cc_meaning_file.specs.RowForms as forms
-use Rattle.cc_meaning_file.specs.Tables.{IsRow, IsHeader, HasTables}
+use Rattle.cc_meaning_file.specs.Tables.{IsRow}
 use Rattle.cc_meaning_program.specs.Named.{text_of, type_name}
 use Rattle.cc_meaning_linking.specs.Rows.{IsTypeRow, PrototypeFits, FieldFits, MethodFits, ClassFits, FitTables}
 use Rattle.cc_meaning_building.specs.Laws.{NamesArePaired, WrittenTables}

@@ -1,10 +1,10 @@
 -- Numbers in LEB128 are spelled where they are written.
-use Rattle.std.proofs.Common.{◌≡◌, ℕ, zero, suc, ◌+◌, ◌-◌, ◌*◌, ◌/◌, ◌%◌, ◌^◌, ◌<◌, ◌≤◌, ◌⊎◌, inl, inr, Bool, true, false, nat_lt, List, [], ◌∷◌, ◌++◌, length, take, drop, refl, sym, ap, subst, ◌∙◌, arith}
+use Rattle.std.proofs.Common.{◌≡◌, ℕ, zero, suc, ◌+◌, ◌-◌, ◌/◌, ◌%◌, ◌^◌, ◌<◌, ◌≤◌, ◌⊎◌, inl, inr, List, [], ◌∷◌, length, take, drop, refl, sym, ap, subst, ◌∙◌, arith}
 use Rattle.std.specs.Prelude.{slice_range}
 use Rattle.std.proofs.lemmas.Bool.{cases_lt, lt-ltb, le-ltb}
 use Rattle.std.proofs.lemmas.Nat.{div_below}
 use Rattle.std.proofs.Math.Nat.{pow-suc}
-use Rattle.cc_meaning_file.specs.Leb128.{IsLeb, leb_value, LebStands, SpellsUleb}
+use Rattle.cc_meaning_file.specs.Leb128.{IsLeb, leb_value, LebStands}
 use Rattle.cc_meaning_file.specs.Numbers.{Stands}
 use Rattle.cc_meaning_building.specs.Forms.{uleb_form, uleb_within}
 use Rattle.cc_meaning_building.specs.Laws.{WrittenUleb}

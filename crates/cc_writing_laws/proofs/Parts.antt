@@ -1,9 +1,8 @@
 -- How parts stand in a list of bytes.
-use Rattle.std.proofs.Common.{◌≡◌, ◌≢◌, ℕ, zero, suc, ◌+◌, ◌-◌, ◌*◌, ◌<◌, ◌≤◌, List, [], ◌∷◌, ◌++◌, length, take, drop, slice_get, Some, refl, sym, ap, subst, ◌∙◌, arith}
+use Rattle.std.proofs.Common.{◌≡◌, ◌≢◌, ℕ, zero, suc, ◌+◌, ◌-◌, ◌*◌, ◌<◌, ◌≤◌, List, [], ◌∷◌, ◌++◌, length, take, drop, refl, sym, ap, subst, ◌∙◌, arith}
 use Rattle.std.specs.List.{flat_map}
-use Rattle.std.proofs.lemmas.List.{append_assoc, length-append, length-drop, take-append-drop, take_at, drop_at, drop-drop, drop_all, drop-append-le}
-use Rattle.std.proofs.lemmas.Bool.{cases_lt}
-use Rattle.cc_meaning_file.specs.Numbers.{Stands, Within}
+use Rattle.std.proofs.lemmas.List.{append_assoc, length-append, length-drop, take-append-drop, take_at, drop_at, drop-drop, drop-append-le}
+use Rattle.cc_meaning_file.specs.Numbers.{Stands}
 use Rattle.cc_meaning_building.specs.Forms.{u16_form, little_form}
 use Rattle.cc_meaning_building.specs.Laws.{StandsApart}
 use Rattle.cc_writing_laws.specs.Standing.{StandsTogether, StandsLonger, StandsFurther, StandsBehind, StandsWithin, UnitsStand}

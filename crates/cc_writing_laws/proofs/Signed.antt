@@ -1,11 +1,10 @@
 -- Signed numbers in LEB128 are spelled where they are written.
-use Rattle.std.proofs.Common.{◌≡◌, ℕ, zero, suc, ◌+◌, ◌-◌, ◌*◌, ◌/◌, ◌%◌, ◌^◌, ◌<◌, ◌≤◌, ◌⊎◌, inl, inr, Bool, true, false, cond, nat_lt, nat_le, List, [], ◌∷◌, ◌++◌, length, refl, sym, ap, subst, ◌∙◌, arith, ℤ, pos}
-use Rattle.std.specs.Prelude.{if◌then◌else◌, neg_ℤ, ◌+ℤ◌, ◌*ℤ◌, ◌≤ℤ◌, ◌<ℤ◌}
+use Rattle.std.proofs.Common.{◌≡◌, ℕ, zero, suc, ◌+◌, ◌-◌, ◌*◌, ◌/◌, ◌%◌, ◌^◌, ◌<◌, ◌≤◌, ◌⊎◌, inl, inr, Bool, true, false, nat_lt, nat_le, List, [], ◌∷◌, length, refl, sym, ap, subst, ◌∙◌, arith, ℤ, pos}
+use Rattle.std.specs.Prelude.{if◌then◌else◌, neg_ℤ, ◌+ℤ◌, ◌*ℤ◌}
 use Rattle.std.proofs.lemmas.Bool.{cases_lt, lt-ltb, le-ltb, le-leb, lt-leb}
 use Rattle.std.proofs.lemmas.Int.{ints}
 use Rattle.std.proofs.Math.Nat.{pow-suc}
-use Rattle.cc_meaning_file.specs.Leb128.{FitsI32, IsLeb, signed_group, signed_leb_value, SpellsSleb}
-use Rattle.cc_meaning_file.specs.Numbers.{Stands}
+use Rattle.cc_meaning_file.specs.Leb128.{FitsI32, IsLeb, signed_group, signed_leb_value}
 use Rattle.cc_meaning_building.specs.Forms.{sleb_form, sleb_within}
 use Rattle.cc_meaning_building.specs.Laws.{signed, WrittenSleb}
 use Rattle.cc_writing_laws.specs.Standing.{SlebLength}

@@ -1,11 +1,17 @@
 -- Numbers of a fixed width are read where they are written.
-use Rattle.std.proofs.Common.{◌≡◌, ◌≢◌, ℕ, zero, suc, ◌+◌, ◌-◌, ◌*◌, ◌/◌, ◌%◌, ◌^◌, ◌<◌, ◌≤◌, List, [], ◌∷◌, ◌++◌, length, take, drop, get_or, refl, sym, ap, subst, ◌∙◌, arith}
+use Rattle.std.proofs.Common.{◌≡◌, ℕ, zero, suc, ◌+◌, ◌/◌, ◌%◌, List, drop, get_or, refl, sym, ap, ◌∙◌, arith}
 use Rattle.std.specs.Prelude.{slice_index}
 use Rattle.std.proofs.lemmas.List.{get_or-drop}
-use Rattle.cc_meaning_file.specs.Numbers.{Stands, Within, u16_at, u32_at}
+use Rattle.cc_meaning_file.specs.Numbers.{u16_at, u32_at}
 use Rattle.cc_meaning_building.specs.Forms.{u16_form, u32_form, little_form}
 use Rattle.cc_meaning_building.specs.Laws.{WrittenU16, WrittenU32}
-use Rattle.cc_writing_laws.proofs.Parts.{behind, opened, stands_few}
+use Rattle.cc_writing_laws.specs.Standing.{LittleLength}
+use Rattle.cc_writing_laws.proofs.Parts.{opened, stands_few}
+
+pub little_length : LittleLength
+unfolding little_form
+little_length zero n = refl
+little_length (suc size) n = ap suc (little_length size (n / 256))
 
 -- a byte of what stands at a place
 byte : (file : List ℕ) (at k : ℕ) (there : List ℕ) → drop at file ≡ there → slice_index file (at + k) ≡ get_or there k 0

@@ -2,7 +2,7 @@
 use Rattle.std.specs.Prelude.{◌≡◌, ◌≢◌, ℕ, ◌+◌, ◌*◌, ◌<◌, ◌≤◌, Bool, List, [], ◌++◌, length, slice_get, Some}
 use Rattle.std.specs.List.{flat_map}
 use Rattle.cc_meaning_file.specs.Numbers.{Stands, Within}
-use Rattle.cc_meaning_building.specs.Forms.{sleb_form, u16_form, uleb_form}
+use Rattle.cc_meaning_building.specs.Forms.{little_form, sleb_form, u16_form, uleb_form}
 
 -- two parts that stand one behind the other stand as one
 abbrev pub StandsTogether : Type 0
@@ -27,6 +27,14 @@ StandsWithin = (file : List ℕ) (at : ℕ) (part : List ℕ) → Stands file at
 -- of numbers of 16 bits, each stands two bytes behind the one before it
 abbrev pub UnitsStand : Type 0
 UnitsStand = (file : List ℕ) (at : ℕ) (units : List ℕ) → Stands file at (flat_map u16_form units) → (place unit : ℕ) → slice_get units place ≡ Some unit → Stands file (at + place * 2) (u16_form unit)
+
+-- a number of so many bytes takes that many
+abbrev pub LittleLength : Type 0
+LittleLength = (size n : ℕ) → length (little_form size n) ≡ size
+
+-- and one of 16 bits two
+abbrev pub UnitsLength : Type 0
+UnitsLength = (units : List ℕ) → length (flat_map u16_form units) ≡ length units * 2
 
 -- a number in ULEB128 takes one to five bytes
 abbrev pub UlebLength : Type 0
