@@ -20,7 +20,7 @@ StandsFurther = (front bytes : List ℕ) (at : ℕ) (part : List ℕ) → Stands
 abbrev pub StandsBehind : Type 0
 StandsBehind = (bytes part rest : List ℕ) → Stands (bytes ++ (part ++ rest)) (length bytes) part
 
--- what stands in a file lies in it; nothing stands anywhere
+-- what stands in a file lies in it; the empty part stands anywhere
 abbrev pub StandsWithin : Type 0
 StandsWithin = (file : List ℕ) (at : ℕ) (part : List ℕ) → Stands file at part → part ≢ [] → Within file at (length part)
 
