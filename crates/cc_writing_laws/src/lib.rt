@@ -1,0 +1,16 @@
+//! Laws of the parts of a file that a builder writes: what is written is what is read.
+#![tactic(auto)]
+
+mod items;
+mod numbers;
+mod standing;
+
+pub use items::{written_tables, written_text, written_types};
+pub use numbers::{
+    little_length, sleb_length, uleb_length, units_length, written_sleb, written_u16, written_u32,
+    written_uleb,
+};
+pub use standing::{
+    stands_apart, stands_behind, stands_further, stands_longer, stands_together, stands_within,
+    units_stand,
+};
