@@ -94,7 +94,14 @@ impl DexBuilder {
     /// # Errors
     ///
     /// `Memory`: there is none for the field. Nothing is added then.
-    pub fn field(&mut self, class: u32, name: &str, kind: &str, flags: u32, value: Option<ListedValue>) -> Result<(), Memory>
+    pub fn field(
+        &mut self,
+        class: u32,
+        name: &str,
+        kind: &str,
+        flags: u32,
+        value: Option<ListedValue>,
+    ) -> Result<(), Memory>
         requires { class < length self.old }
         ensures added { OnOk result (self.new ≡ changed (with_field (new_field name.now kind.now flags value)) class self.old) }
         ensures count { length self.new ≡ length self.old }
@@ -115,7 +122,14 @@ impl DexBuilder {
     /// # Errors
     ///
     /// `Memory`: there is none for the method. Nothing is added then.
-    pub fn method(&mut self, class: u32, name: &str, proto: &str, flags: u32, code: Option<Listing>) -> Result<(), Memory>
+    pub fn method(
+        &mut self,
+        class: u32,
+        name: &str,
+        proto: &str,
+        flags: u32,
+        code: Option<Listing>,
+    ) -> Result<(), Memory>
         requires { class < length self.old }
         ensures added { OnOk result (self.new ≡ changed (with_method (new_method name.now proto.now flags code)) class self.old) }
         ensures count { length self.new ≡ length self.old }
