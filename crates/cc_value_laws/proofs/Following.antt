@@ -1,11 +1,9 @@
 -- The values of a class follow each other where they are written.
-use Rattle.std.proofs.Common.{◌≡◌, ◌≢◌, inl, inr, ℕ, zero, suc, ◌+◌, ◌^◌, ◌<◌, ◌≤◌, true, List, [], ◌∷◌, ◌++◌, length, slice_get, Option, Some, None, refl, sym, ap, subst, ◌∙◌, arith}
+use Rattle.std.proofs.Common.{◌≡◌, ◌≢◌, inl, inr, ℕ, ◌+◌, ◌^◌, ◌<◌, ◌≤◌, true, List, [], ◌∷◌, ◌++◌, length, slice_get, Option, Some, None, refl, sym, ap, ◌∙◌, arith}
 use Rattle.std.specs.List.{All}
 use Rattle.std.proofs.lemmas.List.{append_assoc, length-append}
 use Rattle.std.proofs.lemmas.List.Elements.{All-head, All-tail}
-use Rattle.cc_meaning.specs.declared.file.ClassRow.{ClassRow}
 use Rattle.cc_meaning.specs.declared.file.Ids.{Ids}
-use Rattle.cc_meaning.specs.declared.file.RawClass.{RawClass}
 use Rattle.cc_meaning.specs.declared.file.RawField.{RawField}
 use Rattle.cc_meaning.specs.declared.program.StaticValue.{StaticValue}
 use Rattle.cc_meaning.specs.declared.program.StaticValue.TheVariants as static
@@ -96,7 +94,7 @@ values_follow apart within file ids all (field ∷ fields) (value ∷ values) fr
       within = ends.1;
     } in
     let rest = values_follow apart within file ids all fields values (front ++ (field ∷ [])) (next_of from form) short (whole ∙ sym (append_assoc front (field ∷ []) fields)) next fit.2
-        (All-tail IsSmallValue value values small) parts.1 in
+    (All-tail IsSmallValue value values small) parts.1 in
     record { end = rest.end; each = (next_of from form, one, rest.each); few = omega (arith, rest.few) }
 
 -- ---- all values of a class

@@ -1,6 +1,5 @@
 -- A value of a field's kind is spelled where it is written.
-use Rattle.std.proofs.Common.{◌≡◌, ◌⊎◌, inl, inr, ℕ, suc, ◌+◌, ◌-◌, ◌*◌, ◌/◌, ◌%◌, ◌^◌, ◌<◌, ◌≤◌, ℤ, pos, negsuc, Bool, true, false, cond, nat_lt, List, [], ◌∷◌, length, Some, refl, sym, ap, subst, ◌∙◌, arith}
-use Rattle.std.specs.Prelude.{slice_index}
+use Rattle.std.proofs.Common.{◌≡◌, ◌⊎◌, inl, inr, ℕ, ◌+◌, ◌/◌, ◌%◌, ◌^◌, ◌<◌, ◌≤◌, ℤ, pos, negsuc, Bool, true, false, cond, List, [], ◌∷◌, length, Some, refl, sym, ap, subst, ◌∙◌, arith}
 use Rattle.std.proofs.lemmas.Bool.Decides.{nat_tests}
 use Rattle.cc_meaning.specs.declared.file.Ids.{Ids}
 use Rattle.cc_meaning.specs.declared.program.StaticValue.{StaticValue}
@@ -14,7 +13,7 @@ use Rattle.cc_meaning_building.specs.Forms.{little_form, signed_form, is_unit, i
 use Rattle.cc_meaning_building.specs.Laws.{StandsApart}
 use Rattle.cc_meaning_building.specs.Written.{IsSmallValue}
 use Rattle.cc_writing_laws.specs.Standing.{StandsWithin}
-use Rattle.cc_value_laws.proofs.Numbers.{byte_there, byte_within, little_length, little_written, extended, remainder, remainder_of_pos, remainder_below, sign_kept}
+use Rattle.cc_value_laws.proofs.Numbers.{byte_there, byte_within, little_length, little_written, extended, is_inside, remainder, remainder_of_pos, remainder_below, sign_kept}
 
 -- ---- first bytes, and numbers behind them
 
@@ -38,10 +37,14 @@ number_written apart within file at b most argument n is few stands =
 number_read : StandsApart → (file : List ℕ) (at b size n : ℕ) → n < 256 ^ size → Stands file at (b ∷ little_form size n) → little_at file (at + 1) size ≡ n
 number_read apart file at b size n small stands = little_written apart file (at + 1) size n small (apart file at (b ∷ []) (little_form size n) stands).1
 
-signed_read : StandsApart → (file : List ℕ) (at b size half full : ℕ) (n : ℤ) → half ≡ 2 ^ (8 * size - 1) → full ≡ 256 ^ size → half + half ≡ full → extended half full (remainder full n) ≡ n → remainder full n < full →
-    Stands file at (b ∷ little_form size (remainder full n)) → extended half full (little_at file (at + 1) size) ≡ n
-signed_read apart file at b size half full n half_is full_is twice kept below stands =
-    ap (extended half full) (number_read apart file at b size (remainder full n) (subst (λ k. remainder full n < k) full_is below) stands) ∙ kept
+-- with a sign
+signed_written : StandsApart → StandsWithin → (file : List ℕ) (at b most argument half full : ℕ) (n : ℤ) → b / 32 ≡ argument → argument + 1 ≤ most → full ≡ 256 ^ (argument + 1) → half + half ≡ full →
+    is_inside half n ≡ true → Stands file at (b ∷ little_form (argument + 1) (remainder full n)) →
+    NumberStands file at (b % 32) most argument (at + length (b ∷ little_form (argument + 1) (remainder full n))) × (extended half full (little_at file (at + 1) (argument + 1)) ≡ n)
+signed_written apart within file at b most argument half full n is few wide twice test stands =
+    let below = subst (λ k. remainder full n < k) wide (remainder_below half full n twice test) in
+    let value = number_read apart file at b (argument + 1) (remainder full n) below stands in
+    (number_written apart within file at b most argument (remainder full n) is few stands, ap (extended half full) value ∙ sign_kept half full n twice test)
 
 -- ---- values by their kinds
 
@@ -65,26 +68,24 @@ chosen file at holds false this that is written stands = absurd cc
 
 byte_written : StandsApart → StandsWithin → (file : List ℕ) (at : ℕ) (n : ℤ) → is_within 7 n ≡ true → Stands file at (0 ∷ signed_form 1 n) → SignedStands file 0 1 at (static.Int n) (at + length (0 ∷ signed_form 1 n))
 byte_written apart within file at n test stands =
-    let value = signed_read apart file at 0 1 128 256 n refl refl refl (sign_kept 128 256 n refl test) (remainder_below 128 256 n refl test) stands in
-    (0, number_written apart within file at 0 1 0 (remainder 256 n) refl (omega arith) stands, sym (ap static.Int value))
+    let both = signed_written apart within file at 0 1 0 128 256 n refl (omega arith) refl refl test stands in
+    (0, both.0, sym (ap static.Int both.1))
 
 short_written : StandsApart → StandsWithin → (file : List ℕ) (at : ℕ) (n : ℤ) → is_within 15 n ≡ true → Stands file at (34 ∷ signed_form 2 n) → SignedStands file 2 2 at (static.Int n) (at + length (34 ∷ signed_form 2 n))
 short_written apart within file at n test stands =
-    let value = signed_read apart file at 34 2 32768 65536 n refl refl refl (sign_kept 32768 65536 n refl test) (remainder_below 32768 65536 n refl test) stands in
-    (1, number_written apart within file at 34 2 1 (remainder 65536 n) refl (omega arith) stands, sym (ap static.Int value))
+    let both = signed_written apart within file at 34 2 1 32768 65536 n refl (omega arith) refl refl test stands in
+    (1, both.0, sym (ap static.Int both.1))
 
 int_written : StandsApart → StandsWithin → (file : List ℕ) (at : ℕ) (n : ℤ) → is_within 31 n ≡ true → Stands file at (100 ∷ signed_form 4 n) → SignedStands file 4 4 at (static.Int n) (at + length (100 ∷ signed_form 4 n))
 int_written apart within file at n test stands =
-    let value = signed_read apart file at 100 4 2147483648 4294967296 n refl refl refl (sign_kept 2147483648 4294967296 n refl test) (remainder_below 2147483648 4294967296 n refl test) stands in
-    (3, number_written apart within file at 100 4 3 (remainder 4294967296 n) refl (omega arith) stands, sym (ap static.Int value))
+    let both = signed_written apart within file at 100 4 3 2147483648 4294967296 n refl (omega arith) refl refl test stands in
+    (3, both.0, sym (ap static.Int both.1))
 
 long_written : StandsApart → StandsWithin → (file : List ℕ) (at : ℕ) (n : ℤ) → is_within 63 n ≡ true → Stands file at (230 ∷ signed_form 8 n) →
     (argument : ℕ) × NumberStands file at 6 8 argument (at + length (230 ∷ signed_form 8 n)) × (static.Long n ≡ static.Long (signed_little_at file (at + 1) (argument + 1)))
 long_written apart within file at n test stands =
-    let half = 9223372036854775808 in
-    let full = 18446744073709551616 in
-    let value = signed_read apart file at 230 8 half full n refl refl refl (sign_kept half full n refl test) (remainder_below half full n refl test) stands in
-    (7, number_written apart within file at 230 8 7 (remainder full n) refl (omega arith) stands, sym (ap static.Long value))
+    let both = signed_written apart within file at 230 8 7 9223372036854775808 18446744073709551616 n refl (omega arith) refl refl test stands in
+    (7, both.0, sym (ap static.Long both.1))
 
 char_written : StandsApart → StandsWithin → (file : List ℕ) (at : ℕ) (n : ℤ) → is_unit n ≡ true → Stands file at (35 ∷ signed_form 2 n) →
     (argument : ℕ) × NumberStands file at 3 2 argument (at + length (35 ∷ signed_form 2 n)) × (static.Int n ≡ static.Int (pos (little_at file (at + 1) (argument + 1))))
