@@ -63,7 +63,7 @@ handlers_place : (file : List ℕ) (at : ℕ) (code : RawCode) → HeadStands fi
 unfolding handlers_at
 handlers_place file at code head = ap (λ count. tries_at file at + count * 8) head.tries
 
-no_number : (n : ℕ) → (n == 0) ≡ true → n ≡ 0
+pub no_number : (n : ℕ) → (n == 0) ≡ true → n ≡ 0
 no_number n e = grind (arith, nat_tests)
 
 -- the units, the tries and their handlers are no shorter than where the handlers begin
@@ -84,6 +84,30 @@ handlers_inside file at outs code head stands =
     let some : 0 < length (code_form outs code) = simp length-append (omega arith) in
     let all = simp length-append at (stands_inside file at (code_form outs code) stands some) in
     omega (arith, all, units_size code.units, part_long code, tries_place file at code head, handlers_place file at code head)
+
+-- the tries of an item that has some, and behind them their handlers
+pub record TriesStand (file : List ℕ) (at : ℕ) (code : RawCode) : Type 0 where
+  pub each : Stands file (tries_at file at) (tries_form (length (uleb_form (length code.tries))) code.tries)
+  pub handlers : Stands file (handlers_at file at) (handlers_form code.tries)
+
+abbrev first_offset : RawCode → ℕ
+first_offset code = length (uleb_form (length code.tries))
+
+pub tries_stand : Lower → (file : List ℕ) (at : ℕ) (code : RawCode) → HeadStands file at code → (length code.tries == 0) ≡ false → TriesStand file at code
+tries_stand low file at code head some =
+    let parts = low.apart file (units_at at) (flat_map u16_form code.units) (tries_part code) head.rest in
+    let behind : ℕ = units_at at + length (flat_map u16_form code.units) in
+    let padded = low.apart file behind (padding_form code.units) (tries_form (first_offset code) code.tries ++ handlers_form code.tries)
+    (subst (λ none. Stands file behind (cond none [] (padding_form code.units ++ (tries_form (first_offset code) code.tries ++ handlers_form code.tries)))) some parts.1) in
+    let both = low.apart file (behind + length (padding_form code.units)) (tries_form (first_offset code) code.tries) (handlers_form code.tries) padded.1 in
+    let pad : padding (length code.tries) (length code.units) ≡ length code.units % 2 * 2 = ap (λ none. cond none 0 (length code.units % 2 * 2)) some in
+    let place : behind + length (padding_form code.units) ≡ tries_at file at = omega (arith, units_size code.units, padding_size code.units, pad, tries_place file at code head) in
+    let after : behind + length (padding_form code.units) + length (tries_form (first_offset code) code.tries) ≡ handlers_at file at =
+    omega (arith, place, tries_size (first_offset code) code.tries, handlers_place file at code head) in
+    record {
+      each = subst (λ k. Stands file k (tries_form (first_offset code) code.tries)) place both.0;
+      handlers = subst (λ k. Stands file k (handlers_form code.tries)) after both.1;
+    }
 
 -- ---- the law
 

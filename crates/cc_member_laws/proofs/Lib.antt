@@ -2,6 +2,8 @@ pub mod Lower
 pub mod Sizes
 pub mod CodeItems
 pub mod Ordered
+pub mod Following
 pub mod MemberLists
 pub mod Members
+pub mod Handlers
 pub mod Tries

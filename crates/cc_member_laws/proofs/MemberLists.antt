@@ -10,15 +10,9 @@ use Rattle.cc_meaning_classes.specs.Members.{FieldStands, MethodStands}
 use Rattle.cc_meaning_classes.specs.Rows.{IsFieldOf, IsMethodOf}
 use Rattle.cc_meaning_classes.specs.Sequences.{Follow, ListStands}
 use Rattle.cc_meaning_building.specs.Forms.{uleb_form, fields_form, methods_form}
+use Rattle.cc_member_laws.proofs.Following.{cursor, FollowBytes, list_stands}
 use Rattle.cc_member_laws.proofs.Lower.{Lower}
 use Rattle.cc_member_laws.proofs.Ordered.{Rises}
-
-abbrev pub cursor : ℕ → ℕ → Cursor
-cursor at row = record { at = at; row = row }
-
--- items that follow one another from a place on, and end where that many bytes end
-abbrev pub FollowBytes : {A : Type 0} → (Cursor → A → Cursor → Type 0) → Cursor → List A → ℕ → Type 0
-FollowBytes stands from items size = (end : Cursor) × Follow stands from items end × (end.at ≡ from.at + size)
 
 behind : (before row : ℕ) → before ≤ row → row ≡ before + (row - before)
 behind before row rises = omega arith
@@ -42,7 +36,7 @@ fields_follow low file ids class is_static at before (field ∷ fields) fit agre
     let flags = low.apart file place (uleb_form field.flags) (fields_form field.row fields) step.1 in
     let next : ℕ = place + length (uleb_form field.flags) in
     let others = fields_follow low file ids class is_static next field.row fields (All-tail (FieldFits ids class) field fields fit)
-      (All-tail (λ (other : RawField). other.is_static ≡ is_static) field fields agree) rises.1 flags.1 in
+    (All-tail (λ (other : RawField). other.is_static ≡ is_static) field fields agree) rises.1 flags.1 in
     let same = behind before field.row rises.0 in
     let first : FieldStands file ids class is_static (cursor at before) field (cursor next field.row) = record {
       difference = field.row - before;
@@ -61,8 +55,7 @@ pub fields_stand : Lower → (file : List ℕ) (ids : Ids) (class : ℕ) (is_sta
     All (λ field. field.is_static ≡ is_static) fields → Rises (λ field. field.row) 0 fields → Stands file at (fields_form 0 fields) →
     ListStands (FieldStands file ids class is_static) (length fields) at fields (at + length (fields_form 0 fields))
 fields_stand low file ids class is_static at fields fit agree rises stands =
-    let (end, each, last) = fields_follow low file ids class is_static at 0 fields fit agree rises stands in
-    record { all = refl; end = end; each = each; last = sym last }
+    list_stands (FieldStands file ids class is_static) at fields (length (fields_form 0 fields)) (fields_follow low file ids class is_static at 0 fields fit agree rises stands)
 
 -- ---- methods
 
@@ -86,7 +79,7 @@ methods_follow low file ids class is_direct at before (method ∷ methods) fit a
     let code = low.apart file code_place (uleb_form method.code_at) (methods_form method.row methods) flags.1 in
     let next : ℕ = code_place + length (uleb_form method.code_at) in
     let others = methods_follow low file ids class is_direct next method.row methods (All-tail (MethodFits ids class) method methods fit)
-      (All-tail (λ (other : StatedMethod). other.is_direct ≡ is_direct) method methods agree) rises.1 code.1 in
+    (All-tail (λ (other : StatedMethod). other.is_direct ≡ is_direct) method methods agree) rises.1 code.1 in
     let same = behind before method.row rises.0 in
     let first : MethodStands file ids class is_direct (cursor at before) method (cursor next method.row) = record {
       difference = method.row - before;
@@ -107,5 +100,4 @@ pub methods_stand : Lower → (file : List ℕ) (ids : Ids) (class : ℕ) (is_di
     All (λ method. method.is_direct ≡ is_direct) methods → Rises (λ method. method.row) 0 methods → Stands file at (methods_form 0 methods) →
     ListStands (MethodStands file ids class is_direct) (length methods) at methods (at + length (methods_form 0 methods))
 methods_stand low file ids class is_direct at methods fit agree rises stands =
-    let (end, each, last) = methods_follow low file ids class is_direct at 0 methods fit agree rises stands in
-    record { all = refl; end = end; each = each; last = sym last }
+    list_stands (MethodStands file ids class is_direct) at methods (length (methods_form 0 methods)) (methods_follow low file ids class is_direct at 0 methods fit agree rises stands)

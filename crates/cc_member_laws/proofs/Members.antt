@@ -94,24 +94,24 @@ class_data low file ids class at fields methods short fit stands =
       virtuals = length virtuals;
       statics_at = statics_at;
       counts = counts_stand low file at (length statics) (length instances) (length directs) (length virtuals)
-        (few_fields file statics_at statics short one.0) (few_fields file instances_at instances short two.0)
-        (few_methods file directs_at directs short three.0) (few_methods file virtuals_at virtuals short three.1) counts.0;
+          (few_fields file statics_at statics short one.0) (few_fields file instances_at instances short two.0)
+          (few_methods file directs_at directs short three.0) (few_methods file virtuals_at virtuals short three.1) counts.0;
       static_fields = statics;
       instances_at = instances_at;
       static_list = fields_stand low file ids class true statics_at statics (All-filter is_static (FieldFits ids class) fields fit.each_field)
-        (filter_passes is_static fields) (fronts_rise is_static field_row fields fit.fields_rise) one.0;
+          (filter_passes is_static fields) (fronts_rise is_static field_row fields fit.fields_rise) one.0;
       instance_fields = instances;
       directs_at = directs_at;
       instance_list = fields_stand low file ids class false instances_at instances (All-filter (λ field. not (is_static field)) (FieldFits ids class) fields fit.each_field)
-        (backs_lack is_static fields) (backs_rise is_static field_row fields fit.fields_rise) two.0;
+          (backs_lack is_static fields) (backs_rise is_static field_row fields fit.fields_rise) two.0;
       direct_methods = directs;
       virtuals_at = virtuals_at;
       direct_list = methods_stand low file ids class true directs_at directs (All-filter is_direct (MethodFits ids class) methods fit.each_method)
-        (filter_passes is_direct methods) (fronts_rise is_direct method_row methods fit.methods_rise) three.0;
+          (filter_passes is_direct methods) (fronts_rise is_direct method_row methods fit.methods_rise) three.0;
       virtual_methods = virtuals;
       end = virtuals_at + length (methods_form 0 virtuals);
       virtual_list = methods_stand low file ids class false virtuals_at virtuals (All-filter (λ method. not (is_direct method)) (MethodFits ids class) methods fit.each_method)
-        (backs_lack is_direct methods) (backs_rise is_direct method_row methods fit.methods_rise) three.1;
+          (backs_lack is_direct methods) (backs_rise is_direct method_row methods fit.methods_rise) three.1;
       fields = in_two is_static field_row fields fit.fields_rise;
       methods = in_two is_direct method_row methods fit.methods_rise;
     }
@@ -153,13 +153,13 @@ data_fits : (file : List ℕ) (ids : Ids) (type : ℕ) (class : RawClass) (metho
 data_fits file ids type class methods small own each = record {
   each_field = λ k d within. field_fits ids type (slice_index_or class.fields k d) (small.each_field k d within) (own.each_field k d within);
   each_method = λ k d within.
-    let (there, written) = at k d within in
-    method_fits file ids type (slice_index_or methods k d) (slice_index_or class.methods k blank) written (small.each_method k blank there) (own.each_method k blank there);
+      let (there, written) = at k d within in
+      method_fits file ids type (slice_index_or methods k d) (slice_index_or class.methods k blank) written (small.each_method k blank there) (own.each_method k blank there);
   fields_rise = own.fields_rise;
   methods_rise = λ i j d less within.
-    let (first, this) = at i d (omega (arith, less, within)) in
-    let (second, that) = at j d within in
-    stated_before file (slice_index_or methods i d) (slice_index_or methods j d) (slice_index_or class.methods i blank) (slice_index_or class.methods j blank) this that (own.methods_rise i j blank less second);
+      let (first, this) = at i d (omega (arith, less, within)) in
+      let (second, that) = at j d within in
+      stated_before file (slice_index_or methods i d) (slice_index_or methods j d) (slice_index_or class.methods i blank) (slice_index_or class.methods j blank) this that (own.methods_rise i j blank less second);
 }
   where
     at : (k : ℕ) (d : StatedMethod) → k < length methods → (k < length class.methods) × IsMethodWritten file (slice_index_or methods k d) (slice_index_or class.methods k blank)

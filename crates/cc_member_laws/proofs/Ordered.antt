@@ -39,15 +39,15 @@ rise flag row is xs agree pairs =
 
 -- ---- the two parts
 
-from_not : (flag : Bool) → not flag ≡ true → flag ≡ false
+pub from_not : (flag : Bool) → not flag ≡ true → flag ≡ false
 from_not true e = absurd (cc)
 from_not false e = refl
 
-none_kept : {A : Type 0} (test : A → Bool) (xs : List A) → All (λ x. test x ≡ false) xs → filter test xs ≡ []
+pub none_kept : {A : Type 0} (test : A → Bool) (xs : List A) → All (λ x. test x ≡ false) xs → filter test xs ≡ []
 none_kept test [] none = refl
 none_kept test (x ∷ xs) none = rw (All-head (λ y. test y ≡ false) x xs none) (none_kept test xs (All-tail (λ y. test y ≡ false) x xs none))
 
-all_kept : {A : Type 0} (test : A → Bool) (xs : List A) → All (λ x. test x ≡ true) xs → filter test xs ≡ xs
+pub all_kept : {A : Type 0} (test : A → Bool) (xs : List A) → All (λ x. test x ≡ true) xs → filter test xs ≡ xs
 all_kept test [] all = refl
 all_kept test (x ∷ xs) all = rw (All-head (λ y. test y ≡ true) x xs all) (ap (λ ys. x ∷ ys) (all_kept test xs (All-tail (λ y. test y ≡ true) x xs all)))
 
