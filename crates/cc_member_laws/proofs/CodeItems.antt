@@ -1,21 +1,21 @@
 -- That code is sound where it is written.
-use Rattle.std.proofs.Common.{◌≡◌, ◌≢◌, ◌⊎◌, inl, inr, ℕ, zero, suc, ◌+◌, ◌-◌, ◌*◌, ◌%◌, ◌^◌, ◌<◌, ◌≤◌, Bool, true, false, cond, List, [], ◌∷◌, ◌++◌, length, All, Option, Some, None, refl, sym, ap, subst, arith, length-append, ◌∙◌}
+use Rattle.std.proofs.Common.{◌≡◌, inl, inr, ℕ, ◌+◌, ◌*◌, ◌%◌, ◌^◌, ◌<◌, ◌≤◌, Bool, true, false, cond, List, [], ◌++◌, length, Option, Some, None, refl, sym, ap, subst, arith, length-append, ◌∙◌}
 use Rattle.std.proofs.lemmas.Bool.Decides.{nat_tests}
-use Rattle.std.specs.Prelude.{if◌then◌else◌, ◌==◌}
+use Rattle.std.specs.Prelude.{◌==◌}
 use Rattle.std.specs.List.{flat_map}
 use Rattle.cc_meaning.specs.declared.file.Ids.{Ids}
 use Rattle.cc_meaning.specs.declared.file.RawCode.{RawCode}
-use Rattle.cc_meaning.specs.declared.file.RawMethod.{RawMethod}
 use Rattle.cc_meaning_file.specs.Numbers.{Stands, u16_at, u32_at}
 use Rattle.cc_meaning_file.specs.Tables.{longest_file}
 use Rattle.cc_meaning_classes.specs.declared.items.StatedMethod.{StatedMethod}
 use Rattle.cc_meaning_classes.specs.CodeItems.{HasSoundCode, CodeFits, argument_registers, has_no_code, register_count, argument_count, try_count, unit_count, padding, units_at, tries_at, handlers_at}
-use Rattle.cc_meaning_building.specs.Built.{HasSuitedCode, SuitsFlags}
+use Rattle.cc_meaning_building.specs.Built.{SuitsFlags}
 use Rattle.cc_meaning_building.specs.Forms.{little_form, u16_form, u32_form, uleb_form, tries_form, handlers_form, padding_form, tries_part, code_head, code_form}
 use Rattle.cc_meaning_building.specs.Laws.{WrittenCode}
-use Rattle.cc_meaning_building.specs.Written.{CodeFitsFormat, CodeWritten, IsMethodWritten, IsSmallCode}
-use Rattle.cc_member_laws.proofs.Lower.{Lower, stands_within, stands_inside}
-use Rattle.cc_member_laws.proofs.Sizes.{units_size, padding_size, tries_size}
+use Rattle.cc_meaning_building.specs.Written.{CodeFitsFormat, CodeWritten, IsSmallCode}
+use Rattle.cc_member_laws.specs.Lower.{Lower}
+use Rattle.cc_member_laws.proofs.Parts.{ends_inside, is_shorter}
+use Rattle.cc_member_laws.proofs.Sizes.{padding_size, tries_size}
 
 -- ---- the head of an item
 
@@ -27,11 +27,11 @@ pub record HeadStands (file : List ℕ) (at : ℕ) (code : RawCode) : Type 0 whe
   pub units : unit_count file at ≡ length code.units
   pub rest : Stands file (units_at at) (flat_map u16_form code.units ++ tries_part code)
 
-few_units : (file : List ℕ) (at outs : ℕ) (code : RawCode) → length file ≤ longest_file → Stands file at (code_form outs code) → length code.units < 2 ^ 32
+few_units : Lower → (file : List ℕ) (at outs : ℕ) (code : RawCode) → length file ≤ longest_file → Stands file at (code_form outs code) → length code.units < 2 ^ 32
 unfolding code_form little_form
-few_units file at outs code short stands =
-    let all = simp length-append at (stands_within file at (code_form outs code) stands) in
-    omega (arith, all, units_size code.units)
+few_units low file at outs code short stands =
+    let all = simp length-append at (is_shorter low file at (code_form outs code) stands) in
+    omega (arith, all, low.units_size code.units)
 
 pub head_stands : Lower → (file : List ℕ) (at outs : ℕ) (code : RawCode) → length file ≤ longest_file → IsSmallCode code → length code.tries < 65536 →
     Stands file at (code_form outs code) → HeadStands file at code
@@ -49,7 +49,7 @@ head_stands low file at outs code short small tries stands =
       registers = (low.u16 file at code.registers small.few_registers registers.0).1;
       ins = (low.u16 file (at + 2) code.ins small.few_arguments ins.0).1;
       tries = subst (λ k. u16_at file k ≡ length code.tries) six (low.u16 file (at + 2 + 2 + 2) (length code.tries) tries counted.0).1;
-      units = subst (λ k. u32_at file k ≡ length code.units) twelve (low.u32 file (at + 2 + 2 + 2 + 2 + 4) (length code.units) (few_units file at outs code short stands) debug.1).1;
+      units = subst (λ k. u32_at file k ≡ length code.units) twelve (low.u32 file (at + 2 + 2 + 2 + 2 + 4) (length code.units) (few_units low file at outs code short stands) debug.1).1;
       rest = parts.1;
     }
 
@@ -78,12 +78,12 @@ part_long code = cases (length code.tries == 0) refl
         let each = tries_size (length (uleb_form (length code.tries))) code.tries in
         simp length-append (omega (arith, padded, each))
 
-handlers_inside : (file : List ℕ) (at outs : ℕ) (code : RawCode) → HeadStands file at code → Stands file at (code_form outs code) → handlers_at file at ≤ length file
+handlers_inside : Lower → (file : List ℕ) (at outs : ℕ) (code : RawCode) → HeadStands file at code → Stands file at (code_form outs code) → handlers_at file at ≤ length file
 unfolding code_form little_form
-handlers_inside file at outs code head stands =
+handlers_inside low file at outs code head stands =
     let some : 0 < length (code_form outs code) = simp length-append (omega arith) in
-    let all = simp length-append at (stands_inside file at (code_form outs code) stands some) in
-    omega (arith, all, units_size code.units, part_long code, tries_place file at code head, handlers_place file at code head)
+    let all = simp length-append at (ends_inside low file at (code_form outs code) stands some) in
+    omega (arith, all, low.units_size code.units, part_long code, tries_place file at code head, handlers_place file at code head)
 
 -- the tries of an item that has some, and behind them their handlers
 pub record TriesStand (file : List ℕ) (at : ℕ) (code : RawCode) : Type 0 where
@@ -101,7 +101,7 @@ tries_stand low file at code head some =
     (subst (λ none. Stands file behind (cond none [] (padding_form code.units ++ (tries_form (first_offset code) code.tries ++ handlers_form code.tries)))) some parts.1) in
     let both = low.apart file (behind + length (padding_form code.units)) (tries_form (first_offset code) code.tries) (handlers_form code.tries) padded.1 in
     let pad : padding (length code.tries) (length code.units) ≡ length code.units % 2 * 2 = ap (λ none. cond none 0 (length code.units % 2 * 2)) some in
-    let place : behind + length (padding_form code.units) ≡ tries_at file at = omega (arith, units_size code.units, padding_size code.units, pad, tries_place file at code head) in
+    let place : behind + length (padding_form code.units) ≡ tries_at file at = omega (arith, low.units_size code.units, padding_size code.units, pad, tries_place file at code head) in
     let after : behind + length (padding_form code.units) + length (tries_form (first_offset code) code.tries) ≡ handlers_at file at =
     omega (arith, place, tries_size (first_offset code) code.tries, handlers_place file at code head) in
     record {
@@ -116,7 +116,7 @@ code_fits : Lower → (file : List ℕ) (ids : Ids) (stated : StatedMethod) (out
 code_fits low file ids stated outs code short small fits stands arguments few =
     let head = head_stands low file stated.code_at outs code short small fits.tries stands in
     record {
-      within = handlers_inside file stated.code_at outs code head stands;
+      within = handlers_inside low file stated.code_at outs code head stands;
       arguments = arguments ∙ ap Some (sym head.ins);
       few = omega (arith, few, head.ins, head.registers);
     }

@@ -1,26 +1,25 @@
 -- That handlers are spelled where they are written.
-use Rattle.std.proofs.Common.{◌≡◌, ◌≢◌, ◌⊎◌, inl, inr, ℕ, zero, suc, ◌+◌, ◌^◌, ◌<◌, ◌≤◌, ℤ, pos, ◌<ℤ◌, ◌≤ℤ◌, Bool, true, false, List, [], ◌∷◌, ◌++◌, length, All, Option, Some, None, refl, sym, ap, subst, ◌∙◌, arith, length-append, unsigned_abs}
-use Rattle.std.specs.Prelude.{Contains, not, is_some, nat_lt, slice_index_or}
+use Rattle.std.proofs.Common.{◌≡◌, ◌≢◌, ◌⊎◌, inl, inr, ℕ, zero, suc, ◌+◌, ◌^◌, ◌<◌, ◌≤◌, pos, ◌<ℤ◌, ◌≤ℤ◌, Bool, true, false, List, [], ◌∷◌, ◌++◌, length, All, Option, Some, None, refl, sym, ap, subst, ◌∙◌, arith, length-append, unsigned_abs}
+use Rattle.std.specs.Prelude.{not, is_some, nat_lt, slice_index_or}
 use Rattle.std.specs.List.{filter, flat_map}
 use Rattle.std.proofs.lemmas.Grind.{flat_map-append}
 use Rattle.std.proofs.lemmas.Int.{ints}
 use Rattle.std.proofs.lemmas.List.Elements.{All-cons, All-head, All-tail, All-weaker, Contains-get_or, filter-append}
 use Rattle.cc_meaning.specs.declared.file.Ids.{Ids}
 use Rattle.cc_meaning.specs.declared.file.RawCatch.{RawCatch}
-use Rattle.cc_meaning_file.specs.Leb128.{SpellsUleb, SpellsSleb}
+use Rattle.cc_meaning_file.specs.Leb128.{SpellsUleb}
 use Rattle.cc_meaning_file.specs.Numbers.{Stands}
 use Rattle.cc_meaning_file.specs.Tables.{longest_file}
-use Rattle.cc_meaning_classes.specs.declared.items.Cursor.{Cursor}
 use Rattle.cc_meaning_classes.specs.declared.items.Handler.{Handler}
 use Rattle.cc_meaning_classes.specs.Sequences.{ListStands}
-use Rattle.cc_meaning_classes.specs.Tries.{IsValueType, PairStands, catch_all, CatchAllStands, HandlerStands}
-use Rattle.cc_meaning_building.specs.Forms.{uleb_form, sleb_form, caught_form, catch_form, takes_all, typed_count, any_takes_all, handler_form}
+use Rattle.cc_meaning_classes.specs.Tries.{IsValueType, PairStands, catch_all, HandlerStands}
+use Rattle.cc_meaning_building.specs.Forms.{uleb_form, sleb_form, caught_form, catch_form, takes_all, typed_count, handler_form}
 use Rattle.cc_meaning_building.specs.Laws.{CatchesFit, signed}
 use Rattle.cc_meaning_building.specs.Written.{IsSmallCatch}
 use Rattle.cc_member_laws.proofs.Following.{cursor, FollowBytes, list_stands}
-use Rattle.cc_member_laws.proofs.Lower.{Lower, stands_within}
+use Rattle.cc_member_laws.specs.Lower.{Lower}
+use Rattle.cc_member_laws.proofs.Parts.{is_shorter}
 use Rattle.cc_member_laws.proofs.Ordered.{none_kept, all_kept}
-use Rattle.cc_member_laws.proofs.Sizes.{uleb_some}
 
 -- ---- what a handler catches
 
@@ -125,12 +124,12 @@ all_form ids pairs address fit =
 
 -- ---- pairs
 
-pairs_size : (pairs : List RawCatch) → length pairs ≤ length (flat_map catch_form pairs)
-pairs_size [] = omega arith
-pairs_size (pair ∷ pairs) = simp length-append (omega (arith, uleb_some pair.at, pairs_size pairs))
+pairs_size : Lower → (pairs : List RawCatch) → length pairs ≤ length (flat_map catch_form pairs)
+pairs_size low [] = omega arith
+pairs_size low (pair ∷ pairs) = simp length-append (omega (arith, (low.uleb_size pair.at).0, pairs_size low pairs))
 
-few_pairs : (file : List ℕ) (at : ℕ) (pairs : List RawCatch) → length file ≤ longest_file → Stands file at (flat_map catch_form pairs) → length pairs < 2 ^ 31
-few_pairs file at pairs short stands = omega (arith, pairs_size pairs, stands_within file at (flat_map catch_form pairs) stands)
+few_pairs : Lower → (file : List ℕ) (at : ℕ) (pairs : List RawCatch) → length file ≤ longest_file → Stands file at (flat_map catch_form pairs) → length pairs < 2 ^ 31
+few_pairs low file at pairs short stands = omega (arith, pairs_size low pairs, is_shorter low file at (flat_map catch_form pairs) stands)
 
 pairs_follow : Lower → (file : List ℕ) (ids : Ids) (at row : ℕ) (pairs : List RawCatch) → All (PairFits ids) pairs → Stands file at (flat_map catch_form pairs) →
     FollowBytes (PairStands file ids) (cursor at row) pairs (length (flat_map catch_form pairs))
@@ -198,7 +197,7 @@ typed_handler low file ids at pairs short fit some stands =
     record {
       size = signed false (length pairs);
       pairs_at = pairs_at;
-      stated = low.sleb file at (length pairs) false (few_pairs file pairs_at pairs short parts.1) parts.0;
+      stated = low.sleb file at (length pairs) false (few_pairs low file pairs_at pairs short parts.1) parts.0;
       pairs = pairs;
       rest_at = pairs_at + length (flat_map catch_form pairs);
       listed = pairs_stand low file ids false pairs_at pairs fit parts.1;
@@ -221,7 +220,7 @@ all_handler low file ids at pairs address short fit small stands =
     record {
       size = signed true (length pairs);
       pairs_at = pairs_at;
-      stated = low.sleb file at (length pairs) true (few_pairs file pairs_at pairs short both.0) parts.0;
+      stated = low.sleb file at (length pairs) true (few_pairs low file pairs_at pairs short both.0) parts.0;
       pairs = pairs;
       rest_at = rest_at;
       listed = pairs_stand low file ids true pairs_at pairs fit both.0;

@@ -1,4 +1,4 @@
-pub mod Lower
+pub mod Parts
 pub mod Sizes
 pub mod CodeItems
 pub mod Ordered

@@ -1,17 +1,16 @@
 -- That lists of members are spelled where they are written.
-use Rattle.std.proofs.Common.{◌≡◌, ◌⊎◌, inl, inr, ℕ, zero, suc, ◌+◌, ◌-◌, ◌^◌, ◌<◌, ◌≤◌, Bool, true, false, List, [], ◌∷◌, ◌++◌, length, All, refl, sym, ap, subst, ◌∙◌, arith, length-append}
+use Rattle.std.proofs.Common.{◌≡◌, ℕ, ◌+◌, ◌-◌, ◌^◌, ◌<◌, ◌≤◌, Bool, List, [], ◌∷◌, ◌++◌, length, All, refl, subst, arith, length-append}
 use Rattle.std.proofs.lemmas.List.Elements.{All-head, All-tail}
 use Rattle.cc_meaning.specs.declared.file.Ids.{Ids}
 use Rattle.cc_meaning.specs.declared.file.RawField.{RawField}
 use Rattle.cc_meaning_file.specs.Numbers.{Stands}
-use Rattle.cc_meaning_classes.specs.declared.items.Cursor.{Cursor}
 use Rattle.cc_meaning_classes.specs.declared.items.StatedMethod.{StatedMethod}
 use Rattle.cc_meaning_classes.specs.Members.{FieldStands, MethodStands}
 use Rattle.cc_meaning_classes.specs.Rows.{IsFieldOf, IsMethodOf}
-use Rattle.cc_meaning_classes.specs.Sequences.{Follow, ListStands}
+use Rattle.cc_meaning_classes.specs.Sequences.{ListStands}
 use Rattle.cc_meaning_building.specs.Forms.{uleb_form, fields_form, methods_form}
 use Rattle.cc_member_laws.proofs.Following.{cursor, FollowBytes, list_stands}
-use Rattle.cc_member_laws.proofs.Lower.{Lower}
+use Rattle.cc_member_laws.specs.Lower.{Lower}
 use Rattle.cc_member_laws.proofs.Ordered.{Rises}
 
 behind : (before row : ℕ) → before ≤ row → row ≡ before + (row - before)

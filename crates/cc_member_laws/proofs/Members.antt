@@ -3,7 +3,6 @@ use Rattle.std.proofs.Common.{◌≡◌, ◌≢◌, ◌⊎◌, inl, inr, ℕ, ze
 use Rattle.std.specs.Prelude.{AllPairs, slice_index_or, not}
 use Rattle.std.specs.List.{flat_map}
 use Rattle.std.proofs.lemmas.List.Elements.{All-filter, filter_passes}
-use Rattle.cc_meaning.specs.declared.file.ClassRow.{ClassRow}
 use Rattle.cc_meaning.specs.declared.file.Ids.{Ids}
 use Rattle.cc_meaning.specs.declared.file.RawClass.{RawClass}
 use Rattle.cc_meaning.specs.declared.file.RawCode.{RawCode}
@@ -15,13 +14,14 @@ use Rattle.cc_meaning_file.specs.Tables.{longest_file}
 use Rattle.cc_meaning_classes.specs.declared.items.Members.{Members}
 use Rattle.cc_meaning_classes.specs.declared.items.StatedMethod.{StatedMethod}
 use Rattle.cc_meaning_classes.specs.Classes.{EachPair}
-use Rattle.cc_meaning_classes.specs.Members.{CountsStand, SpellsClassData, SpellsMembers, no_members}
+use Rattle.cc_meaning_classes.specs.Members.{CountsStand, SpellsClassData, SpellsMembers}
 use Rattle.cc_meaning_classes.specs.Rows.{IsFieldOf, IsMethodOf}
 use Rattle.cc_meaning_building.specs.Forms.{uleb_form, fields_form, methods_form, static_fields, instance_fields, direct_methods, virtual_methods, member_counts, class_data_form}
 use Rattle.cc_meaning_building.specs.Laws.{MembersAreOwn, WrittenMembers, members_with}
 use Rattle.cc_meaning_building.specs.Members.{FieldBefore, MethodBefore}
-use Rattle.cc_meaning_building.specs.Written.{AreMembersWritten, CodeWritten, IsMethodWritten, IsSmallClass, IsSmallField, IsSmallMethod}
-use Rattle.cc_member_laws.proofs.Lower.{Lower, stands_within}
+use Rattle.cc_meaning_building.specs.Written.{CodeWritten, IsMethodWritten, IsSmallClass, IsSmallField, IsSmallMethod}
+use Rattle.cc_member_laws.specs.Lower.{Lower}
+use Rattle.cc_member_laws.proofs.Parts.{is_shorter}
 use Rattle.cc_member_laws.proofs.MemberLists.{FieldFits, MethodFits, fields_stand, methods_stand}
 use Rattle.cc_member_laws.proofs.Ordered.{in_two, fronts_rise, backs_lack, backs_rise}
 use Rattle.cc_member_laws.proofs.Sizes.{fields_size, methods_size}
@@ -61,11 +61,11 @@ counts_stand low file at statics instances directs virtuals first second third f
       virtual_methods = subst (SpellsUleb file virtuals_at virtuals) next (low.uleb file virtuals_at virtuals fourth four.0);
     }
 
-few_fields : (file : List ℕ) (at : ℕ) (fields : List RawField) → length file ≤ longest_file → Stands file at (fields_form 0 fields) → length fields < 2 ^ 32
-few_fields file at fields short stands = omega (arith, fields_size 0 fields, stands_within file at (fields_form 0 fields) stands)
+few_fields : Lower → (file : List ℕ) (at : ℕ) (fields : List RawField) → length file ≤ longest_file → Stands file at (fields_form 0 fields) → length fields < 2 ^ 32
+few_fields low file at fields short stands = omega (arith, fields_size low 0 fields, is_shorter low file at (fields_form 0 fields) stands)
 
-few_methods : (file : List ℕ) (at : ℕ) (methods : List StatedMethod) → length file ≤ longest_file → Stands file at (methods_form 0 methods) → length methods < 2 ^ 32
-few_methods file at methods short stands = omega (arith, methods_size 0 methods, stands_within file at (methods_form 0 methods) stands)
+few_methods : Lower → (file : List ℕ) (at : ℕ) (methods : List StatedMethod) → length file ≤ longest_file → Stands file at (methods_form 0 methods) → length methods < 2 ^ 32
+few_methods low file at methods short stands = omega (arith, methods_size low 0 methods, is_shorter low file at (methods_form 0 methods) stands)
 
 class_data : Lower → (file : List ℕ) (ids : Ids) (class at : ℕ) (fields : List RawField) (methods : List StatedMethod) → length file ≤ longest_file → DataFits ids class fields methods →
     Stands file at (class_data_form fields methods) → SpellsClassData file ids class at (record { fields = fields; methods = methods })
@@ -94,8 +94,8 @@ class_data low file ids class at fields methods short fit stands =
       virtuals = length virtuals;
       statics_at = statics_at;
       counts = counts_stand low file at (length statics) (length instances) (length directs) (length virtuals)
-          (few_fields file statics_at statics short one.0) (few_fields file instances_at instances short two.0)
-          (few_methods file directs_at directs short three.0) (few_methods file virtuals_at virtuals short three.1) counts.0;
+          (few_fields low file statics_at statics short one.0) (few_fields low file instances_at instances short two.0)
+          (few_methods low file directs_at directs short three.0) (few_methods low file virtuals_at virtuals short three.1) counts.0;
       static_fields = statics;
       instances_at = instances_at;
       static_list = fields_stand low file ids class true statics_at statics (All-filter is_static (FieldFits ids class) fields fit.each_field)

@@ -1,30 +1,27 @@
 -- That a method is spelled with its code and its tries where they are written.
-use Rattle.std.proofs.Common.{◌≡◌, ◌≢◌, ◌⊎◌, inl, inr, ℕ, zero, suc, ◌+◌, ◌-◌, ◌*◌, ◌^◌, ◌<◌, ◌≤◌, Bool, true, false, List, [], ◌∷◌, ◌++◌, length, slice_get, All, Option, Some, None, refl, sym, ap, subst, ◌∙◌, arith, length-append}
+use Rattle.std.proofs.Common.{◌≡◌, ◌≢◌, inl, inr, ℕ, suc, ◌+◌, ◌-◌, ◌*◌, ◌<◌, ◌≤◌, Bool, true, false, List, [], ◌∷◌, ◌++◌, length, All, Option, Some, None, refl, sym, ap, subst, ◌∙◌, arith, length-append}
 use Rattle.std.proofs.lemmas.Bool.Decides.{nat_tests}
 use Rattle.std.proofs.lemmas.List.Elements.{All-head, All-tail}
-use Rattle.std.specs.Prelude.{◌==◌, slice_index_or}
+use Rattle.std.specs.Prelude.{◌==◌}
 use Rattle.std.specs.List.{flat_map}
 use Rattle.cc_meaning.specs.declared.file.Ids.{Ids}
 use Rattle.cc_meaning.specs.declared.file.RawCatch.{RawCatch}
 use Rattle.cc_meaning.specs.declared.file.RawCode.{RawCode}
-use Rattle.cc_meaning.specs.declared.file.RawMethod.{RawMethod}
 use Rattle.cc_meaning.specs.declared.file.RawTry.{RawTry}
-use Rattle.cc_meaning_file.specs.Numbers.{Stands, u16_at, u32_at}
+use Rattle.cc_meaning_file.specs.Numbers.{Stands, u16_at}
 use Rattle.cc_meaning_file.specs.Tables.{longest_file}
-use Rattle.cc_meaning_classes.specs.declared.items.Cursor.{Cursor}
 use Rattle.cc_meaning_classes.specs.declared.items.Handler.{Handler}
-use Rattle.cc_meaning_classes.specs.declared.items.StatedMethod.{StatedMethod}
-use Rattle.cc_meaning_classes.specs.CodeItems.{UnitStands, unit_count, try_count, units_at, tries_at, handlers_at}
+use Rattle.cc_meaning_classes.specs.CodeItems.{UnitStands, unit_count, units_at, tries_at, handlers_at}
 use Rattle.cc_meaning_classes.specs.Sequences.{ListStands}
-use Rattle.cc_meaning_classes.specs.Tries.{HandlerStands, SpellsHandlers, IsHandlerAt, TryStands, SpellsTries, HasTries, SpellsCode, HasCode, SpellsMethod}
-use Rattle.cc_meaning_building.specs.Built.{HasSuitedTries, AreTriesInside}
-use Rattle.cc_meaning_building.specs.Forms.{little_form, u16_form, u32_form, uleb_form, handler_form, handlers_form, tries_form, tries_part, code_form}
-use Rattle.cc_meaning_building.specs.Laws.{CatchesFit, HandlersFit, WrittenTries}
-use Rattle.cc_meaning_building.specs.Written.{CodeFitsFormat, CodeWritten, IsMethodWritten, IsSmallCode, IsSmallTry, TryFits}
+use Rattle.cc_meaning_classes.specs.Tries.{HandlerStands, IsHandlerAt, TryStands, SpellsTries, HasTries, SpellsCode, HasCode}
+use Rattle.cc_meaning_building.specs.Built.{AreTriesInside}
+use Rattle.cc_meaning_building.specs.Forms.{little_form, u16_form, u32_form, uleb_form, handler_form, tries_form, tries_part, code_form}
+use Rattle.cc_meaning_building.specs.Laws.{CatchesFit, WrittenTries}
+use Rattle.cc_meaning_building.specs.Written.{CodeFitsFormat, CodeWritten, IsSmallCode, IsSmallTry, TryFits}
 use Rattle.cc_member_laws.proofs.CodeItems.{HeadStands, head_stands, TriesStand, tries_stand, no_number}
 use Rattle.cc_member_laws.proofs.Following.{cursor, FollowBytes, list_stands}
-use Rattle.cc_member_laws.proofs.Handlers.{handler, HandlerIsAt, handler_stands}
-use Rattle.cc_member_laws.proofs.Lower.{Lower}
+use Rattle.cc_member_laws.proofs.Handlers.{handler, handler_stands}
+use Rattle.cc_member_laws.specs.Lower.{Lower}
 
 -- ---- units
 
