@@ -66,7 +66,7 @@ handlers_place file at code head = ap (λ count. tries_at file at + count * 8) h
 pub no_number : (n : ℕ) → (n == 0) ≡ true → n ≡ 0
 no_number n e = grind (arith, nat_tests)
 
--- the units, the tries and their handlers are no shorter than where the handlers begin
+-- what stands behind the units is no shorter than the padding and the tries
 part_long : (code : RawCode) → padding (length code.tries) (length code.units) + length code.tries * 8 ≤ length (tries_part code)
 part_long code = cases (length code.tries == 0) refl
   where
