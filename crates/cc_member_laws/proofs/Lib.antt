@@ -1,0 +1,9 @@
+pub mod Parts
+pub mod Sizes
+pub mod CodeItems
+pub mod Ordered
+pub mod Following
+pub mod MemberLists
+pub mod Members
+pub mod Handlers
+pub mod Tries
