@@ -1,6 +1,6 @@
 -- Handlers that were added take values, and only the last one takes all.
-use Rattle.std.proofs.Common.{◌≡◌, ◌≢◌, ◌⊎◌, inl, inr, ℕ, zero, suc, ◌+◌, ◌<◌, Bool, true, false, List, [], ◌∷◌, ◌++◌, length, Option, Some, None, refl, sym, ap, subst, ◌∙◌, arith}
-use Rattle.std.specs.Prelude.{All, Contains, slice_get, IsTrue}
+use Rattle.std.proofs.Common.{◌≡◌, ◌≢◌, ◌⊎◌, inl, inr, ℕ, zero, suc, Bool, true, false, List, [], ◌∷◌, ◌++◌, length, Option, Some, None, refl, sym, ap, subst, ◌∙◌}
+use Rattle.std.specs.Prelude.{All, Contains, IsTrue}
 use Rattle.std.proofs.lemmas.Bool.{eqb-true}
 use Rattle.std.proofs.Math.Dec.{eqb}
 use Rattle.std.proofs.lemmas.Option.{slice_get_read}
@@ -21,7 +21,7 @@ use Rattle.cc_meaning_building.specs.Laws.{CatchesFit, HandlersFit}
 use Rattle.cc_meaning_building.specs.Members.{HasRawCode, IsCaught, IsRawCatch, IsRawTry}
 use Rattle.cc_meaning_building.specs.WellNamed.{AreCatches, CatchIsNamed, CodeIsNamed}
 use Rattle.cc_building_laws.proofs.Own.{new, described}
-use Rattle.cc_building_laws.proofs.Pairs.{all_of, contained, left, right, none_left, none_right, some_left, split}
+use Rattle.cc_building_laws.proofs.Pairs.{all_of, contained, right, none_right, some_left, split}
 
 some_same : {A : Type 0} {a b : A} → Some a ≡ Some b → a ≡ b
 some_same e = cc

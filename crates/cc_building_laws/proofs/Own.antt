@@ -1,24 +1,22 @@
 -- The rows, members and handlers of classes that were added, in tables with other offsets.
-use Rattle.std.proofs.Common.{◌≡◌, ◌≢◌, ◌⊎◌, inl, inr, ℕ, zero, suc, ◌<◌, Bool, true, false, List, [], ◌∷◌, ◌++◌, length, Option, Some, None, refl, sym, ap, subst, ◌∙◌, arith}
-use Rattle.std.specs.Prelude.{All, Contains, slice_get, option_and_then, unwrap_or, option_map, map}
+use Rattle.std.proofs.Common.{◌≡◌, ◌≢◌, ℕ, Bool, List, [], Option, Some, None, refl, sym, ap, subst, ◌∙◌}
+use Rattle.std.specs.Prelude.{Contains, unwrap_or}
 use Rattle.std.proofs.lemmas.Option.{slice_get_within}
 use Rattle.std.proofs.lemmas.List.Elements.{All-contains}
 use Rattle.cc_meaning.specs.declared.file.ClassRow.{ClassRow}
 use Rattle.cc_meaning.specs.declared.file.FieldRow.{FieldRow}
 use Rattle.cc_meaning.specs.declared.file.Ids.{Ids}
 use Rattle.cc_meaning.specs.declared.file.MethodRow.{MethodRow}
-use Rattle.cc_meaning.specs.declared.file.ProtoRow.{ProtoRow}
-use Rattle.cc_meaning.specs.declared.listing.RowName.{RowName}
 use Rattle.cc_meaning.specs.declared.listing.RowName.TheVariants as row
-use Rattle.cc_meaning_file.specs.Descriptors.{IsClassDescriptor, IsDescriptor, IsPaired}
+use Rattle.cc_meaning_file.specs.Descriptors.{IsDescriptor, IsPaired}
 use Rattle.cc_meaning_classes.specs.Classes.{EachPair}
-use Rattle.cc_meaning_classes.specs.Rows.{descriptor_of, IsFieldOf, IsMethodOf, IsSameType}
+use Rattle.cc_meaning_classes.specs.Rows.{descriptor_of, IsFieldOf, IsMethodOf}
 use Rattle.cc_meaning_program.specs.Named.{text_of, type_name}
-use Rattle.cc_meaning_linking.specs.Rows.{IsTypeRow, PrototypeFits, FieldFits, MethodFits, ClassFits, FitTables}
+use Rattle.cc_meaning_linking.specs.Rows.{IsTypeRow, ClassFits, FitTables}
 use Rattle.cc_meaning_building.specs.declared.content.ListedClass.{ListedClass}
 use Rattle.cc_meaning_building.specs.Laws.{NamesArePaired}
 use Rattle.cc_meaning_building.specs.Named.{all_names, IsFieldNamed, IsMethodNamed}
-use Rattle.cc_meaning_building.specs.Tables.{AreTables, IsClassRow}
+use Rattle.cc_meaning_building.specs.Tables.{AreTables}
 use Rattle.cc_meaning_building.specs.WellNamed.{IsWellNamed, WellNamed}
 use Rattle.cc_meaning_building.specs.Written.{AreSameTables, IsSameClass}
 use Rattle.cc_building_laws.proofs.Pairs.{left}

@@ -1,5 +1,5 @@
 -- What is written for classes that were added is read again.
-use Rattle.std.proofs.Common.{◌≡◌, ◌≢◌, ◌⊎◌, inl, inr, ℕ, ◌<◌, ◌≤◌, Bool, List, [], ◌∷◌, length, Option, Some, None, refl, sym, ap, subst, ◌∙◌}
+use Rattle.std.proofs.Common.{◌≡◌, ◌≢◌, ℕ, List, [], Some, refl, sym, ap, subst, ◌∙◌}
 use Rattle.std.specs.Prelude.{All, Contains, IsPermutation, slice_get}
 use Rattle.std.proofs.lemmas.List.Elements.{All-contains}
 use Rattle.std.proofs.lemmas.List.Sorted.{Contains-permutation, IsPermutation-sym}
@@ -8,13 +8,12 @@ use Rattle.cc_meaning.specs.declared.fault.DexFault.TheVariants as fault
 use Rattle.cc_meaning.specs.declared.file.ClassRow.{ClassRow}
 use Rattle.cc_meaning.specs.declared.file.Ids.{Ids}
 use Rattle.cc_meaning.specs.declared.file.RawClass.{RawClass}
-use Rattle.cc_meaning.specs.declared.file.RawField.{RawField}
 use Rattle.cc_meaning.specs.declared.file.RawMethod.{RawMethod}
 use Rattle.cc_meaning.specs.declared.program.StaticValue.{StaticValue}
 use Rattle.cc_meaning_classes.specs.declared.items.Members.{Members}
 use Rattle.cc_meaning_classes.specs.declared.items.StatedMethod.{StatedMethod}
 use Rattle.cc_meaning_classes.specs.Causes.{IsCause, IsFirstCause, LacksCode, LacksTries}
-use Rattle.cc_meaning_classes.specs.Classes.{EachPair, SpellsClass, SpellsClasses, SpellsSoundMethod}
+use Rattle.cc_meaning_classes.specs.Classes.{SpellsClass, SpellsClasses, SpellsSoundMethod}
 use Rattle.cc_meaning_classes.specs.CodeItems.{HasSoundCode}
 use Rattle.cc_meaning_classes.specs.Laws.{MembersAgree}
 use Rattle.cc_meaning_classes.specs.Members.{SpellsMembers}
@@ -26,13 +25,13 @@ use Rattle.cc_meaning_building.specs.declared.content.ListedClass.{ListedClass}
 use Rattle.cc_meaning_building.specs.declared.content.ListedMethod.{ListedMethod}
 use Rattle.cc_meaning_building.specs.Built.{HasSuitedCode, HasSuitedTries, HasSuitedValues, IsAdded, IsReadAgain, IsSuited}
 use Rattle.cc_meaning_linking.specs.Rows.{FitTables}
-use Rattle.cc_meaning_building.specs.Laws.{HandlersFit, NamesArePaired, MembersAreOwn, WrittenCode, WrittenIsReadAgain, WrittenMembers, WrittenTables, WrittenTries, WrittenValues, members_with}
+use Rattle.cc_meaning_building.specs.Laws.{HandlersFit, NamesArePaired, MembersAreOwn, WrittenCode, WrittenMembers, WrittenTables, WrittenTries, WrittenValues, members_with}
 use Rattle.cc_meaning_building.specs.Members.{AreRawClasses, IsRawClass, IsRawField, IsRawMethod}
 use Rattle.cc_meaning_building.specs.Tables.{AreTables, IsClassRow}
 use Rattle.cc_meaning_building.specs.WellNamed.{ClassIsNamed, WellNamed}
-use Rattle.cc_meaning_building.specs.Written.{AreMembersWritten, ClassFitsFormat, FitsFormat, IsClassWritten, IsMethodWritten, IsSameClass, IsSmallMethod, IsWritten, MethodFitsFormat}
+use Rattle.cc_meaning_building.specs.Written.{ClassFitsFormat, FitsFormat, IsClassWritten, IsMethodWritten, IsSameClass, IsSmallMethod, IsWritten, MethodFitsFormat}
 use Rattle.cc_building_laws.proofs.Handlers.{cons_nil, handlers_fit}
-use Rattle.cc_building_laws.proofs.Own.{with_classes, new, same_ids, new_fit, new_paired, field_of, method_of}
+use Rattle.cc_building_laws.proofs.Own.{new, same_ids, new_fit, new_paired, field_of, method_of}
 use Rattle.cc_building_laws.proofs.Pairs.{all_of, contained, left, right, mapped}
 
 some_same : {A : Type 0} {a b : A} → Some a ≡ Some b → a ≡ b
@@ -41,7 +40,6 @@ some_same e = cc
 module _ (of_tables : WrittenTables) (of_members : WrittenMembers) (of_code : WrittenCode) (of_tries : WrittenTries) (of_values : WrittenValues) (agree : MembersAgree)
     (content : List ListedClass) (ids : Ids) (classes : List RawClass) (file : List ℕ) (named : WellNamed content) (tables : AreTables content ids) (members : AreRawClasses content ids classes)
     (fits : FitsFormat file ids classes) (written : IsWritten ids classes file) where
-
   abbrev pub read : Ids
   read = written.written
 
@@ -71,18 +69,20 @@ module _ (of_tables : WrittenTables) (of_members : WrittenMembers) (of_code : Wr
       let same = left IsSameClass read.classes ids.classes written.same.classes place stated e in
       let raw = right (IsRawClass ids) content classes members place stands.0 stands.1 in
       let row = left (IsClassRow ids) content ids.classes tables.classes place raw.0 raw.1 in
-      let one : row.0 ≡ same.0 = some_same (sym row.1 ∙ same.1) in
-      (stands.0, record {
-        listed = raw.0;
-        made = same.0;
-        added = raw.1;
-        there = stands.1;
-        row = subst (IsClassRow ids raw.0) one row.2;
-        same = same.2;
-        raw = raw.2;
-        stands = stands.2;
-        is_named = All-contains ClassIsNamed content raw.0 named.classes (contained content place raw.0 raw.1);
-      })
+      let one : row.0 ≡ same.0 = some_same (sym row.1 ∙ same.1) in (
+        stands.0,
+        record {
+          listed = raw.0;
+          made = same.0;
+          added = raw.1;
+          there = stands.1;
+          row = subst (IsClassRow ids raw.0) one row.2;
+          same = same.2;
+          raw = raw.2;
+          stands = stands.2;
+          is_named = All-contains ClassIsNamed content raw.0 named.classes (contained content place raw.0 raw.1);
+        },
+      )
 
   module _ (place : ℕ) (stated : ClassRow) (class : RawClass) (of : Class place stated class) where
     abbrev methods : List StatedMethod
@@ -140,15 +140,25 @@ module _ (of_tables : WrittenTables) (of_members : WrittenMembers) (of_code : Wr
 
     lacks_code : (all : List StatedMethod) (number : ℕ) → all ≡ methods → LacksCode file read all number → IsAdded read classes (fault.BadCode number)
     lacks_code all number same lacks =
-        let pair = left (IsMethodWritten file) methods class.methods of.stands.members.each lacks.place lacks.method (subst (λ ms. slice_get ms lacks.place ≡ Some lacks.method) same lacks.first.there) in
-        (class, pair.0, contained classes place class of.there, contained class.methods lacks.place pair.0 pair.1, sym pair.2.row ∙ lacks.named,
-        (λ suited. lacks.first.lacks (code_of lacks.place lacks.method pair.0 pair.1 pair.2 suited)))
+        let pair = left (IsMethodWritten file) methods class.methods of.stands.members.each lacks.place lacks.method (subst (λ ms. slice_get ms lacks.place ≡ Some lacks.method) same lacks.first.there) in (
+          class,
+          pair.0,
+          contained classes place class of.there,
+          contained class.methods lacks.place pair.0 pair.1,
+          sym pair.2.row ∙ lacks.named,
+          (λ suited. lacks.first.lacks (code_of lacks.place lacks.method pair.0 pair.1 pair.2 suited)),
+        )
 
     lacks_tries : (all : List StatedMethod) (number : ℕ) → all ≡ methods → LacksTries file read all number → IsAdded read classes (fault.BadTry number)
     lacks_tries all number same lacks =
-        let pair = left (IsMethodWritten file) methods class.methods of.stands.members.each lacks.place lacks.method (subst (λ ms. slice_get ms lacks.place ≡ Some lacks.method) same lacks.first.there) in
-        (class, pair.0, contained classes place class of.there, contained class.methods lacks.place pair.0 pair.1, sym pair.2.row ∙ lacks.named,
-        (λ suited. lacks.first.lacks (pair.0, tries_of lacks.place lacks.method pair.0 pair.1 pair.2 suited)))
+        let pair = left (IsMethodWritten file) methods class.methods of.stands.members.each lacks.place lacks.method (subst (λ ms. slice_get ms lacks.place ≡ Some lacks.method) same lacks.first.there) in (
+          class,
+          pair.0,
+          contained classes place class of.there,
+          contained class.methods lacks.place pair.0 pair.1,
+          sym pair.2.row ∙ lacks.named,
+          (λ suited. lacks.first.lacks (pair.0, tries_of lacks.place lacks.method pair.0 pair.1 pair.2 suited)),
+        )
 
     values_of : HasSuitedValues read class → (all : Members) → all ≡ members_with class methods → ((values : List StaticValue) → ¬ SpellsValues file read all.fields stated.values_at values) → ⊥
     values_of suited all same lacks =
