@@ -1,0 +1,9 @@
+pub mod Bytes
+pub mod Numbered
+pub mod Parts
+pub mod Sizes
+pub mod Digests
+pub mod Standing
+pub mod Spelled
+pub mod Whole
+pub mod Fitting

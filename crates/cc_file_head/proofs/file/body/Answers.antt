@@ -1,0 +1,20 @@
+use Rattle.std.proofs.Common.{List, ℕ, [], ◌++◌, ap, ◌∙◌}
+use Rattle.std.specs.List.{flat_map}
+use Rattle.cc_meaning_building.specs.Forms.{u32_form}
+use Rattle.cc_file_head.specs.Rows.{tables_form}
+use Rattle.cc_file_head.proofs.Parts.{put_both}
+use Rattle.cc_file_head.proofs.file.body.Goals as goal
+
+pub returns : goal.returns
+returns c =
+    let numbers = c.header_numbers.result in
+    let tables = tables_form c.args.ids.now c.args.offsets.now in
+    let front = c.put_numbers.new.out in
+    let first = c.in_ok-put_numbers.ensures ∙ ap (λ (out : List ℕ). out ++ flat_map u32_form numbers) c.new-out.ensures in
+    record {
+      numbers = numbers;
+      each = c.header_numbers.ensures.count;
+      exact = c.header_numbers.ensures.exact;
+      form = put_both [] front c.extend_from_slice.new.self (flat_map u32_form numbers) (tables ++ c.args.data.now) first
+          (put_both front c.put_tables.new.out c.extend_from_slice.new.self tables c.args.data.now c.in_ok-put_tables.ensures c.in_ok-extend_from_slice.ensures.ok);
+    }

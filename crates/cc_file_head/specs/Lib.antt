@@ -1,0 +1,4 @@
+pub mod Layout
+pub mod Rows
+pub mod Whole
+pub mod Laws

@@ -1,0 +1,41 @@
+//! Numbers of a fixed width, lowest byte first.
+
+ghost use Rattle.std.specs.Prelude.{◌≡◌, ◌++◌, ◌<◌, ◌^◌, OnOk};
+ghost use Rattle.std.specs.List.{flat_map};
+ghost use Rattle.cc_meaning_building.specs.Forms.{u16_form, u32_form};
+
+use cc_meaning::fault::Memory;
+use cc_meaning::lists::Bytes;
+
+/// A count or an offset as a number of 32 bits. Files of more than 2 ^ 32 bytes are outside of the format, and their numbers are cut off at the highest.
+pub fn number(n: usize) -> u32
+    ensures { n < 2 ^ 32 → result ≡ n }
+{
+    u32::try_from(n).unwrap_or(u32::MAX)
+}
+
+/// Puts the low 16 bits of a number.
+pub fn put_u16(out: &mut Bytes, n: u32) -> Result<(), Memory>
+    ensures { OnOk result (out.new ≡ out.old ++ u16_form n) }
+{
+    out.extend_from_slice(&n.to_le_bytes()[..2])?;
+    Ok(())
+}
+
+/// Puts a number of 32 bits.
+pub fn put_u32(out: &mut Bytes, n: u32) -> Result<(), Memory>
+    ensures { OnOk result (out.new ≡ out.old ++ u32_form n) }
+{
+    out.extend_from_slice(&n.to_le_bytes())?;
+    Ok(())
+}
+
+/// Puts numbers of 32 bits, one behind the other.
+pub fn put_numbers(out: &mut Bytes, numbers: &[u32]) -> Result<(), Memory>
+    ensures { OnOk result (out.new ≡ out.old ++ flat_map u32_form numbers.now) }
+{
+    for n in numbers {
+        put_u32(out, *n)?;
+    }
+    Ok(())
+}
