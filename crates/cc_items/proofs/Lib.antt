@@ -1,0 +1,5 @@
+pub mod Chosen
+pub mod Groups
+pub mod Lists
+pub mod Widths
+pub mod Shapes
