@@ -7,3 +7,4 @@ pub mod Standing
 pub mod Spelled
 pub mod Whole
 pub mod Fitting
+pub mod Widths

@@ -129,6 +129,7 @@ pub built_is_whole : Lower → BuiltIsWhole
 built_is_whole lower ids offsets bytes body is = record {
   long = file_size lower ids offsets bytes body is;
   stands = bytes_stand lower ids offsets bytes body is;
+  wide = is.wide;
   header = header lower ids offsets bytes body is;
   tables = λ short. has_tables lower ids offsets (length bytes) (file_form body) (laid lower ids offsets bytes body is short);
   spelled = λ short. tables_spelled lower ids offsets (length bytes) (file_form body) (laid lower ids offsets bytes body is short);

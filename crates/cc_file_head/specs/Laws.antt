@@ -1,12 +1,11 @@
 -- The laws of the file that is written.
-use Rattle.std.specs.Prelude.{◌≡◌, ℕ, ◌^◌, ◌<◌, ◌≤◌, List, length, slice_get, Some}
-use Rattle.cc_meaning.specs.declared.file.ClassRow.{ClassRow}
+use Rattle.std.specs.Prelude.{ℕ, ◌^◌, ◌<◌, ◌≤◌, List, length}
 use Rattle.cc_meaning.specs.declared.file.Ids.{Ids}
 use Rattle.cc_meaning_linking.specs.Rows.{FitTables}
 use Rattle.cc_meaning_building.specs.Laws.{StandsApart, WrittenU16, WrittenU32}
 use Rattle.cc_writing_laws.specs.Standing.{StandsBehind, StandsWithin}
 use Rattle.cc_file_head.specs.declared.offsets.Offsets.{Offsets}
-use Rattle.cc_file_head.specs.Whole.{HasSmallRows, IsBody, IsWhole, file_form}
+use Rattle.cc_file_head.specs.Whole.{AreWideClasses, HasSmallRows, IsBody, IsWhole, file_form}
 
 -- the laws of numbers and of parts that the others stand on
 pub record Lower : Type 0 where
@@ -19,15 +18,6 @@ pub record Lower : Type 0 where
 -- a body, with its signature and its sum before it, is the whole file
 abbrev pub BuiltIsWhole : Type 0
 BuiltIsWhole = (ids : Ids) (offsets : Offsets) (bytes body : List ℕ) → IsBody ids offsets bytes body → IsWhole ids offsets bytes (file_form body)
-
--- the numbers of a definition that are no rows are of 32 bits
-pub record IsWideClass (class : ClassRow) : Type 0 where
-  pub flags : class.flags < 2 ^ 32
-  pub members_at : class.members_at < 2 ^ 32
-  pub values_at : class.values_at < 2 ^ 32
-
-abbrev pub AreWideClasses : List ClassRow → Type 0
-AreWideClasses classes = (row : ℕ) (class : ClassRow) → slice_get classes row ≡ Some class → IsWideClass class
 
 -- rows that name what is there have room in the slots of the format, where 16 bits number types and prototypes
 abbrev pub FittingRowsAreSmall : Type 0

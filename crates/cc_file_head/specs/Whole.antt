@@ -18,6 +18,17 @@ use Rattle.cc_file_head.specs.declared.offsets.Offsets.{Offsets}
 use Rattle.cc_file_head.specs.Layout.{data_start_of, header_numbers}
 use Rattle.cc_file_head.specs.Rows.{tables_form}
 
+-- ---- what the numbers of definitions are by their type
+
+-- the numbers of a definition that are no rows have 32 bits
+pub record IsWideClass (class : ClassRow) : Type 0 where
+  pub flags : class.flags < 2 ^ 32
+  pub members_at : class.members_at < 2 ^ 32
+  pub values_at : class.values_at < 2 ^ 32
+
+abbrev pub AreWideClasses : List ClassRow → Type 0
+AreWideClasses classes = (row : ℕ) (class : ClassRow) → slice_get classes row ≡ Some class → IsWideClass class
+
 -- ---- the parts of the file, back to front
 
 -- what the signature is of; the numbers of the header are those of the format where 32 bits hold the file's length
@@ -25,6 +36,7 @@ pub record IsBody (ids : Ids) (offsets : Offsets) (bytes body : List ℕ) : Type
   pub numbers : List ℕ
   pub each : length numbers ≡ 20
   pub exact : data_start_of ids + length bytes < 2 ^ 32 → numbers ≡ header_numbers ids (length bytes)
+  pub wide : AreWideClasses ids.classes
   pub form : body ≡ flat_map u32_form numbers ++ (tables_form ids offsets ++ bytes)
 
 -- a body behind its signature
@@ -77,6 +89,7 @@ pub record ItemsStand (ids : Ids) (offsets : Offsets) (file : List ℕ) : Type 0
 pub record IsWhole (ids : Ids) (offsets : Offsets) (bytes file : List ℕ) : Type 0 where
   pub long : length file ≡ data_start_of ids + length bytes
   pub stands : Stands file (data_start_of ids) bytes
+  pub wide : AreWideClasses ids.classes
   pub header : length file ≤ longest_file → IsHeader file
   pub tables : length file ≤ longest_file → HasTables file
   pub spelled : length file ≤ longest_file → HasSmallRows ids → ItemsStand ids offsets file → TablesSpelled file ids

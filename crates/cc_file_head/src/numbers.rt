@@ -1,6 +1,6 @@
 //! Numbers of a fixed width, lowest byte first.
 
-ghost use Rattle.std.specs.Prelude.{◌≡◌, ◌++◌, ◌<◌, ◌^◌, OnOk};
+ghost use Rattle.std.specs.Prelude.{◌≡◌, ◌++◌, ◌<◌, ◌^◌, ℕ, slice_index, OnOk};
 ghost use Rattle.std.specs.List.{flat_map};
 ghost use Rattle.cc_meaning_building.specs.Forms.{u16_form, u32_form};
 
@@ -32,7 +32,8 @@ pub fn put_u32(out: &mut Bytes, n: u32) -> Result<(), Memory>
 
 /// Puts numbers of 32 bits, one behind the other.
 pub fn put_numbers(out: &mut Bytes, numbers: &[u32]) -> Result<(), Memory>
-    ensures { OnOk result (out.new ≡ out.old ++ flat_map u32_form numbers.now) }
+    ensures added { OnOk result (out.new ≡ out.old ++ flat_map u32_form numbers.now) }
+    ensures wide { (place : ℕ) → slice_index numbers.now place < 2 ^ 32 }
 {
     for n in numbers {
         put_u32(out, *n)?;

@@ -3,6 +3,7 @@
 ghost use Rattle.std.specs.Prelude.{◌≡◌, ◌++◌, OnOk, slice_index};
 ghost use Rattle.std.specs.List.{flat_map};
 ghost use Rattle.cc_file_head.specs.Rows.{numbered_form, text_row_form, proto_row_form, field_row_form, method_row_form, stated_superclass, class_row_form, tables_form};
+ghost use Rattle.cc_file_head.specs.Whole.{IsWideClass, AreWideClasses};
 ghost use Rattle.cc_meaning_building.specs.Forms.{u32_form};
 
 use crate::numbers::{put_numbers, put_u16, put_u32};
@@ -107,7 +108,8 @@ fn put_class(
     place: usize,
     class: &ClassRow,
 ) -> Result<(), Memory>
-    ensures { OnOk result (out.new ≡ out.old ++ class_row_form offsets.now place class.now) }
+    ensures added { OnOk result (out.new ≡ out.old ++ class_row_form offsets.now place class.now) }
+    ensures wide { IsWideClass class.now }
 {
     let superclass = stated_superclass(class.superclass);
     let interfaces = said(offsets.interfaces.as_slice(), place);
@@ -125,7 +127,8 @@ fn put_class(
 }
 
 fn put_classes(out: &mut Bytes, offsets: &Offsets, classes: &[ClassRow]) -> Result<(), Memory>
-    ensures { OnOk result (out.new ≡ out.old ++ numbered_form (class_row_form offsets.now) 0 classes.now) }
+    ensures added { OnOk result (out.new ≡ out.old ++ numbered_form (class_row_form offsets.now) 0 classes.now) }
+    ensures wide { OnOk result (AreWideClasses classes.now) }
 {
     for (place, class) in classes.iter().enumerate() {
         put_class(out, offsets, place, class)?;
@@ -135,7 +138,8 @@ fn put_classes(out: &mut Bytes, offsets: &Offsets, classes: &[ClassRow]) -> Resu
 
 /// Puts the six tables, one behind the other.
 pub fn put_tables(out: &mut Bytes, ids: &Ids, offsets: &Offsets) -> Result<(), Memory>
-    ensures { OnOk result (out.new ≡ out.old ++ tables_form ids.now offsets.now) }
+    ensures added { OnOk result (out.new ≡ out.old ++ tables_form ids.now offsets.now) }
+    ensures wide { OnOk result (AreWideClasses ids.now.classes) }
 {
     put_texts(out, offsets, ids.texts.as_slice())?;
     put_numbers(out, ids.types.as_slice())?;
