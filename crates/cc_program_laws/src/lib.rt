@@ -1,7 +1,7 @@
 //! Laws of the programs that files give.
 #![tactic(auto)]
 
-ghost use Rattle.cc_program_laws.specs.Laws.{ProgramsAreWellFormed};
+ghost use Rattle.cc_program_laws.specs.Laws.{ProgramsAreHierarchies, ProgramsAreWellFormed};
 
 use cc_meaning_program::instructions_laid_out;
 
@@ -11,3 +11,8 @@ pub fn programs_are_well_formed()
 {
     instructions_laid_out();
 }
+
+/// The classes of a program of sound classes lead to Object.
+pub fn programs_are_hierarchies()
+    ensures { ProgramsAreHierarchies }
+{}
