@@ -1,0 +1,5 @@
+pub mod Texts
+pub mod Given
+pub mod Calls
+pub mod Ends
+pub mod CheckLine
