@@ -1,0 +1,8 @@
+use Rattle.std.proofs.Common.{◌≡◌, ◌++◌, map, take}
+use Rattle.std.specs.List.{flat_map}
+use Rattle.cc_meaning.specs.declared.listing.RowName.TheVariants as row
+use Rattle.cc_meaning_building.specs.Named.{listed_names, catch_names, try_names, field_names, method_names}
+use Rattle.cc_tables.proofs.names.add_fields.Given as goal
+
+abbrev pub invariant-loop-field : goal.invariant-loop-field
+invariant-loop-field l = l.all ≡ l.initial.all ++ flat_map (field_names l.class) (take l.field-index l.fields)

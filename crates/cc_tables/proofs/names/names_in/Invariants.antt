@@ -1,0 +1,8 @@
+use Rattle.std.proofs.Common.{◌≡◌, ◌++◌, map, take}
+use Rattle.std.specs.List.{flat_map}
+use Rattle.cc_meaning.specs.declared.listing.RowName.TheVariants as row
+use Rattle.cc_meaning_building.specs.Named.{listed_names, catch_names, try_names, field_names, method_names}
+use Rattle.cc_tables.proofs.names.names_in.Given as goal
+
+abbrev pub invariant-loop-class : goal.invariant-loop-class
+invariant-loop-class l = l.all ≡ flat_map listed_names (take l.class-index l.content)

@@ -1,0 +1,29 @@
+use Rattle.std.proofs.Common.{◌≡◌, ◌<◌, ℕ, List, length, sym, ap, ◌∙◌, rules}
+use Rattle.std.specs.List.{HoldsAt}
+use Rattle.std.specs.Cmp.Lexicographic.{slice_cmp}
+use Rattle.std.specs.Ordering.{nat_cmp}
+use Rattle.std.specs.declared.cmp.Ordering.{Ordering}
+use Rattle.std.specs.declared.cmp.Ordering.TheVariants.{Equal}
+use Rattle.std.proofs.lemmas.Fn.{always_returns_same}
+use Rattle.cc_meaning.specs.declared.file.ProtoRow.{ProtoRow}
+use Rattle.cc_meaning_building.specs.Tables.{prototype_key}
+use Rattle.cc_tables.specs.Places.{alone, place_of}
+use Rattle.cc_tables.proofs.Placing.{found, not_found}
+use Rattle.cc_tables.proofs.places.type_place.Goals as goal
+
+pub returns-in-Ok : goal.returns-in-Ok
+returns-in-Ok c =
+    let items = c.args.ids.now.types in
+    let wanted : List ℕ = alone c.text_place-text.result in
+    let order : ℕ → Ordering = λ n. slice_cmp nat_cmp (alone n) wanted in
+    let equal : HoldsAt (λ n. order n ≡ Equal) items c.in-Ok.place = rw (← c.as_slice.ensures) (c.in-Ok.ensures.position order (always_returns_same _ _ _ (λ a r g h. search rules))) in
+    let within : c.in-Ok.place < length items = rw (← c.as_slice.ensures) c.in-Ok.ensures.bound in
+    sym (found alone items c.requires.rise wanted 0 c.in-Ok.place within equal) ∙ ap (λ (text : ℕ). place_of alone items (alone text)) c.text_place-text.ensures
+
+pub returns-in-Err : goal.returns-in-Err
+returns-in-Err c =
+    let items = c.args.ids.now.types in
+    let wanted : List ℕ = alone c.text_place-text.result in
+    let order : ℕ → Ordering = λ n. slice_cmp nat_cmp (alone n) wanted in
+    let told = rw c.as_slice.ensures at (c.in-Err.ensures.position order (always_returns_same _ _ _ (λ a r g h. search rules))) in
+    c.len.ensures.value ∙ sym (not_found alone items c.requires.rise wanted 0 c.in-Err.field-0 told) ∙ ap (λ (text : ℕ). place_of alone items (alone text)) c.text_place-text.ensures

@@ -1,0 +1,6 @@
+use Rattle.std.proofs.Common.{◌≡◌, map, take}
+use Rattle.cc_tables.specs.Places.{class_row_of, field_row_of, method_row_of, proto_row_of, text_place, type_place}
+use Rattle.cc_tables.proofs.rows.class_rows.Given as goal
+
+abbrev pub invariant-loop-class : goal.invariant-loop-class
+invariant-loop-class l = l.rows ≡ map (class_row_of l.ids) (take l.class-index l.content)

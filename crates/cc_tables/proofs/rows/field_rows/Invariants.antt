@@ -1,0 +1,6 @@
+use Rattle.std.proofs.Common.{◌≡◌, map, take}
+use Rattle.cc_tables.specs.Places.{class_row_of, field_row_of, method_row_of, proto_row_of, text_place, type_place}
+use Rattle.cc_tables.proofs.rows.field_rows.Given as goal
+
+abbrev pub invariant-loop-field : goal.invariant-loop-field
+invariant-loop-field l = l.rows ≡ map (field_row_of l.ids) (take l.field-index l.fields)

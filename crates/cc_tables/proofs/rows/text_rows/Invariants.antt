@@ -1,0 +1,6 @@
+use Rattle.std.proofs.Common.{◌≡◌, map, take}
+use Rattle.cc_tables.specs.Places.{class_row_of, field_row_of, method_row_of, proto_row_of, text_place, type_place}
+use Rattle.cc_tables.proofs.rows.text_rows.Given as goal
+
+abbrev pub invariant-loop-text : goal.invariant-loop-text
+invariant-loop-text l = l.rows ≡ map (text_place l.ids) (take l.text-index l.texts)

@@ -1,0 +1,3 @@
+pub mod Needs
+pub mod Places
+pub mod Made
