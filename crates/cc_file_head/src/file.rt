@@ -11,9 +11,10 @@ ghost use Rattle.cc_file_head.specs.Whole.{IsWhole, IsBody, signed_form, file_fo
 
 use crate::header::header_numbers;
 use crate::laws::built_is_whole;
-use crate::numbers::{put_numbers, put_u32};
+use crate::numbers::put_numbers;
 use crate::offsets::Offsets;
 use crate::tables::put_tables;
+use cc_items::put_u32;
 use cc_list::List;
 use cc_meaning::fault::Memory;
 use cc_meaning::file::Ids;

@@ -4,6 +4,7 @@ ghost use Rattle.std.specs.Prelude.{◌≡◌, ◌++◌, ◌<◌, ◌^◌, ℕ, 
 ghost use Rattle.std.specs.List.{flat_map};
 ghost use Rattle.cc_meaning_building.specs.Forms.{u16_form, u32_form};
 
+use cc_items::{put_u16, put_u32};
 use cc_meaning::fault::Memory;
 use cc_meaning::lists::Bytes;
 
@@ -15,18 +16,10 @@ pub fn number(n: usize) -> u32
 }
 
 /// Puts the low 16 bits of a number.
-pub fn put_u16(out: &mut Bytes, n: u32) -> Result<(), Memory>
+pub fn put_low(out: &mut Bytes, n: u32) -> Result<(), Memory>
     ensures { OnOk result (out.new ≡ out.old ++ u16_form n) }
 {
-    out.extend_from_slice(&n.to_le_bytes()[..2])?;
-    Ok(())
-}
-
-/// Puts a number of 32 bits.
-pub fn put_u32(out: &mut Bytes, n: u32) -> Result<(), Memory>
-    ensures { OnOk result (out.new ≡ out.old ++ u32_form n) }
-{
-    out.extend_from_slice(&n.to_le_bytes())?;
+    put_u16(out, (n % 65_536) as u16)?;
     Ok(())
 }
 

@@ -6,8 +6,9 @@ ghost use Rattle.cc_file_head.specs.Rows.{numbered_form, text_row_form, proto_ro
 ghost use Rattle.cc_file_head.specs.Whole.{IsWideClass, AreWideClasses};
 ghost use Rattle.cc_meaning_building.specs.Forms.{u32_form};
 
-use crate::numbers::{put_numbers, put_u16, put_u32};
+use crate::numbers::{put_low, put_numbers};
 use crate::offsets::Offsets;
+use cc_items::put_u32;
 use cc_meaning::fault::Memory;
 use cc_meaning::file::{ClassRow, FieldRow, Ids, MethodRow, ProtoRow};
 use cc_meaning::lists::{Bytes, Units};
@@ -63,8 +64,8 @@ fn put_protos(out: &mut Bytes, offsets: &Offsets, protos: &[ProtoRow]) -> Result
 fn put_field(out: &mut Bytes, field: FieldRow) -> Result<(), Memory>
     ensures { OnOk result (out.new ≡ out.old ++ field_row_form field) }
 {
-    put_u16(out, field.class)?;
-    put_u16(out, field.kind)?;
+    put_low(out, field.class)?;
+    put_low(out, field.kind)?;
     put_u32(out, field.name)
 }
 
@@ -80,8 +81,8 @@ fn put_fields(out: &mut Bytes, fields: &[FieldRow]) -> Result<(), Memory>
 fn put_method(out: &mut Bytes, method: MethodRow) -> Result<(), Memory>
     ensures { OnOk result (out.new ≡ out.old ++ method_row_form method) }
 {
-    put_u16(out, method.class)?;
-    put_u16(out, method.proto)?;
+    put_low(out, method.class)?;
+    put_low(out, method.proto)?;
     put_u32(out, method.name)
 }
 
