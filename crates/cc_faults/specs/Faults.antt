@@ -25,6 +25,10 @@ with_number words number = words ++ 32 ∷ decimal number
 abbrev pub with_name : List ℕ → List ℕ → List ℕ
 with_name words name = words ++ 32 ∷ shown_units name
 
+-- words with the name of a method behind them, and an address in it
+abbrev pub with_place : List ℕ → List ℕ → ℕ → List ℕ
+with_place words method pc = with_number (with_name words method) pc
+
 -- words with the name in a text behind them
 abbrev pub with_text : List ℕ → List ℕ → List ℕ
 with_text words text = words ++ 32 ∷ shown_text text
@@ -50,13 +54,13 @@ dex_words (dex.BadTry method) = with_number (codes "fault 65 D11 BadTry") method
 dex_words (dex.BadValue class) = with_number (codes "fault 65 D12 BadValue") class
 dex_words dex.Memory = memory_words
 
--- units are no instruction
-abbrev pub insn_words : InsnFault → List ℕ
-insn_words insn.Float = codes "fault 65 I1 Float"
-insn_words insn.Unused = codes "fault 65 I2 Unused"
-insn_words insn.CutOff = codes "fault 65 I3 CutOff"
-insn_words insn.BadPayload = codes "fault 65 I4 BadPayload"
-insn_words insn.Memory = memory_words
+-- the units at this place of a method are no instruction
+abbrev pub insn_words : List ℕ → ℕ → InsnFault → List ℕ
+insn_words method pc insn.Float = with_place (codes "fault 65 I1 Float") method pc
+insn_words method pc insn.Unused = with_place (codes "fault 65 I2 Unused") method pc
+insn_words method pc insn.CutOff = with_place (codes "fault 65 I3 CutOff") method pc
+insn_words method pc insn.BadPayload = with_place (codes "fault 65 I4 BadPayload") method pc
+insn_words method pc insn.Memory = memory_words
 
 -- the classes are no program
 abbrev pub program_words : ProgramFault → List ℕ
@@ -65,17 +69,17 @@ program_words (program.NoSuperclass class) = with_name (codes "fault 65 L2 NoSup
 program_words program.NoMain = codes "fault 65 L3 NoMain"
 program_words (program.Duplicate class) = with_name (codes "fault 65 L4 Duplicate") class
 program_words (program.FloatMember name) = with_name (codes "fault 65 L5 FloatMember") name
-program_words (program.Insn method pc fault) = with_number (with_name (insn_words fault) method) pc
-program_words (program.BadIndex method pc) = with_number (with_name (codes "fault 65 I5 BadIndex") method) pc
+program_words (program.Insn method pc fault) = insn_words method pc fault
+program_words (program.BadIndex method pc) = with_place (codes "fault 65 I5 BadIndex") method pc
 program_words program.Memory = memory_words
 
 -- the method of this name isn't well typed, or too wide
 abbrev pub verify_words : List ℕ → VerifyFault → List ℕ
-verify_words name (verify.IllTyped method pc) = with_number (with_name (codes "fault 68 V1 IllTyped") name) pc
-verify_words name (verify.BadTarget method pc) = with_number (with_name (codes "fault 68 V2 BadTarget") name) pc
+verify_words name (verify.IllTyped method pc) = with_place (codes "fault 68 V1 IllTyped") name pc
+verify_words name (verify.BadTarget method pc) = with_place (codes "fault 68 V2 BadTarget") name pc
 verify_words name (verify.FallsOff method) = with_name (codes "fault 68 V3 FallsOff") name
 verify_words name (verify.TooWide method) = with_name (codes "fault 68 V4 TooWide") name
-verify_words name (verify.UnknownMember method pc) = with_number (with_name (codes "fault 68 V5 UnknownMember") name) pc
+verify_words name (verify.UnknownMember method pc) = with_place (codes "fault 68 V5 UnknownMember") name pc
 verify_words name verify.Memory = memory_words
 
 -- ---- what a line says

@@ -1,7 +1,7 @@
 //! Words with fields behind them.
 
 ghost use Rattle.std.specs.Prelude.{◌≡◌, IfOk, OnOk};
-ghost use Rattle.cc_faults.specs.Faults.{with_number, with_name, with_text};
+ghost use Rattle.cc_faults.specs.Faults.{with_number, with_name, with_place, with_text};
 
 use cc_lines::{put_text, put_units};
 use std::alloc::{AllocError, Global};
@@ -62,7 +62,7 @@ pub(crate) fn with_place(
     method: &[u16],
     pc: u32,
 ) -> Result<Vec<u8>, AllocError>
-    ensures { IfOk result (λ line. line.items ≡ with_number (with_name words.now method.now) pc) }
+    ensures { IfOk result (λ line. line.items ≡ with_place words.now method.now pc) }
 {
     let mut line = with_name(alloc, words, method)?;
     put_number(alloc, &mut line, pc)?;

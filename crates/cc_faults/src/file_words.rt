@@ -32,16 +32,21 @@ pub(crate) fn dex_words(alloc: Global, fault: DexFault) -> Result<Vec<u8>, Alloc
     }
 }
 
-/// Of units that are no instruction, but for their place.
-fn insn_words(fault: InsnFault) -> &'static [u8]
-    ensures { result.now ≡ insn_words fault }
+/// Of units at an address of a method that are no instruction.
+fn insn_words(
+    alloc: Global,
+    method: &[u16],
+    pc: u32,
+    fault: InsnFault,
+) -> Result<Vec<u8>, AllocError>
+    ensures { IfOk result (λ words. words.items ≡ insn_words method.now pc fault) }
 {
     match fault {
-        InsnFault::Float => b"fault 65 I1 Float",
-        InsnFault::Unused => b"fault 65 I2 Unused",
-        InsnFault::CutOff => b"fault 65 I3 CutOff",
-        InsnFault::BadPayload => b"fault 65 I4 BadPayload",
-        InsnFault::Memory => b"fault 70 Memory",
+        InsnFault::Float => with_place(alloc, b"fault 65 I1 Float", method, pc),
+        InsnFault::Unused => with_place(alloc, b"fault 65 I2 Unused", method, pc),
+        InsnFault::CutOff => with_place(alloc, b"fault 65 I3 CutOff", method, pc),
+        InsnFault::BadPayload => with_place(alloc, b"fault 65 I4 BadPayload", method, pc),
+        InsnFault::Memory => Vec::from_slice(alloc, b"fault 70 Memory"),
     }
 }
 
@@ -64,7 +69,7 @@ pub(crate) fn program_words(alloc: Global, fault: &ProgramFault) -> Result<Vec<u
             with_name(alloc, b"fault 65 L5 FloatMember", name.as_slice())
         }
         ProgramFault::Insn { method, pc, fault } => {
-            with_place(alloc, insn_words(*fault), method.as_slice(), *pc)
+            insn_words(alloc, method.as_slice(), *pc, *fault)
         }
         ProgramFault::BadIndex { method, pc } => {
             with_place(alloc, b"fault 65 I5 BadIndex", method.as_slice(), *pc)

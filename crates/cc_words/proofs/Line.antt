@@ -8,7 +8,7 @@ use Rattle.clap.specs.declared.error.kind.ErrorKind.TheVariants as kinds
 use Rattle.clap.specs.declared.parser.matches.ArgMatches.{ArgMatches}
 use Rattle.cc_words.specs.Calls.{Call, check, help, version, faulty, call_of}
 use Rattle.cc_words.specs.Ends.{call_at, IsEnd}
-use Rattle.cc_words.specs.CheckLine.{check_app, value_in, CallsFor, ChecksFile}
+use Rattle.cc_words.specs.CheckLine.{check_app, value_in, CallsFor}
 use Rattle.cc_words.specs.declared.check.CheckCall.{CheckCall}
 
 pub is_free : is_simple_and_free check_app ≡ true
@@ -41,22 +41,19 @@ is_refusal kinds.Io file main e = cc
 is_refusal kinds.Format file main e = cc
 is_refusal kinds.OutOfMemory file main e = cc
 
-refused_by : (words : List Text) (kind : ErrorKind) (call : Call) → call_at kind ≡ Some call → ((kind ≡ kinds.OutOfMemory) ⊎ IsAmong kind (fault_of check_app words)) → CallsFor words call
-refused_by words kind call e (inl m) = absurd (is_told kind call e m)
-refused_by words kind (check file main) e (inr a) = absurd (is_refusal kind file main e)
-refused_by words kind help e (inr a) = (kind, a, e)
-refused_by words kind version e (inr a) = (kind, a, e)
-refused_by words kind faulty e (inr a) = (kind, a, e)
+refused_by : (words : List Text) (kind : ErrorKind) (call : Call) → call_at kind ≡ Some call → ((kind ≡ kinds.OutOfMemory) ⊎ IsAmong kind (fault_of check_app words)) → (takes check_app words ≡ true → ⊥) → CallsFor words call
+refused_by words kind call e (inl m) t = absurd (is_told kind call e m)
+refused_by words kind (check file main) e (inr a) t = absurd (is_refusal kind file main e)
+refused_by words kind help e (inr a) t = record { kind = kind; among = a; comes = e; untaken = t }
+refused_by words kind version e (inr a) t = record { kind = kind; among = a; comes = e; untaken = t }
+refused_by words kind faulty e (inr a) t = record { kind = kind; among = a; comes = e; untaken = t }
 
 pub value_by : (app : App) (words : List Text) (m : ArgMatches) (id : Text) (v : Option Text) → app ≡ check_app → HasMatchesOf app words m → v ≡ first_value (found_of m) id → value_in words id ≡ v
 value_by app words m id v is h e =
     let rows : rows_of (found_of m) ≡ matches_of check_app words = (h (ap is_simple is ∙ is_simple_app)).0 ∙ ap (λ a. matches_of a words) is in
     sym (e ∙ first_value-rows (found_of m) id ∙ ap (first_of id) rows)
 
-pub ended : (words : List Text) (kind : ErrorKind) (r : Result CheckCall Memory) → IsEnd kind r → ((kind ≡ kinds.OutOfMemory) ⊎ IsAmong kind (fault_of check_app words)) → IfOk r (λ call. CallsFor words (call_of call))
-ended words kind (Ok call) e k = refused_by words kind (call_of call) e k
-ended words kind (Err memory) e k = tt
-
-pub ended_taken : (words : List Text) (kind : ErrorKind) (r : Result CheckCall Memory) → IsEnd kind r → (takes check_app words ≡ true → kind ≡ kinds.OutOfMemory) → IfOk r (λ call. takes check_app words ≡ true → ChecksFile (call_of call))
-ended_taken words kind (Ok call) e h = λ t. absurd (is_told kind (call_of call) e (h t))
-ended_taken words kind (Err memory) e h = tt
+pub ended : (words : List Text) (kind : ErrorKind) (r : Result CheckCall Memory) → IsEnd kind r → ((kind ≡ kinds.OutOfMemory) ⊎ IsAmong kind (fault_of check_app words)) →
+    (takes check_app words ≡ true → kind ≡ kinds.OutOfMemory) → IfOk r (λ call. CallsFor words (call_of call))
+ended words kind (Ok call) e k h = refused_by words kind (call_of call) e k (λ t. is_told kind (call_of call) e (h t))
+ended words kind (Err memory) e k h = tt

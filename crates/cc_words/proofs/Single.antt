@@ -204,11 +204,11 @@ some_same : {A : Type 0} {a b : A} → Some a ≡ Some b → a ≡ b
 some_same e = cc
 
 refused_once : (words : List Text) (a b : Call) → RefusedBy words a → RefusedBy words b → a ≡ b
-refused_once words a b (kind, among, is) (other, beside, same) =
-    some_same (sym is ∙ ap call_at (same_kind (fault_of check_app words) kind other (at_most_one words) among beside) ∙ same)
+refused_once words a b this that =
+    some_same (sym this.comes ∙ ap call_at (same_kind (fault_of check_app words) this.kind that.kind (at_most_one words) this.among that.among) ∙ that.comes)
 
 not_both : (words : List Text) (call : Call) → fault_of check_app words ≡ [] → RefusedBy words call → ⊥
-not_both words call clear (kind, among, is) = subst (IsAmong kind) clear among
+not_both words call clear refused = subst (IsAmong refused.kind) clear refused.among
 
 pub one_call : OneCall
 one_call words (check file main) (check file' main') (clear, is, with) (clear', is', with') = ap₂ check (some_same (sym is ∙ is')) (sym with ∙ with')

@@ -1,6 +1,6 @@
 -- The words of `check FILE [--main CLASS]`.
 use Rattle.std.specs.Prelude.{◌≡◌, ℕ, true, List, [], Option, Some, codes}
-use Rattle.clap.specs.Words.{App, Rule, Text, first_of, matches_of, new_app, new_rule, with_rule, fault_of, IsAmong}
+use Rattle.clap.specs.Words.{App, Rule, Text, first_of, matches_of, new_app, new_rule, with_rule, fault_of, takes, IsAmong}
 use Rattle.clap.specs.declared.builder.action.ArgAction.TheVariants.{Set}
 use Rattle.clap.specs.declared.error.kind.ErrorKind.{ErrorKind}
 use Rattle.cc_words.specs.Calls.{Call, check, help, version, faulty}
@@ -26,9 +26,12 @@ check_app = with_rule (with_rule (versioned (new_app (codes "check"))) file_rule
 abbrev pub value_in : List Text → List ℕ → Option Text
 value_in words id = first_of id (matches_of check_app words)
 
--- clap refuses the words by an error that comes to this
-abbrev pub RefusedBy : List Text → Call → Type 0
-RefusedBy words call = (kind : ErrorKind) × IsAmong kind (fault_of check_app words) × (call_at kind ≡ Some call)
+-- clap doesn't take the words, and refuses them by an error that comes to this
+pub record RefusedBy (words : List Text) (call : Call) : Type 0 where
+  pub kind : ErrorKind
+  pub among : IsAmong kind (fault_of check_app words)
+  pub comes : call_at kind ≡ Some call
+  pub untaken : takes check_app words ≡ true → ⊥
 
 -- What the words call for: clap takes them, and these are the values; or it finds a mistake in them, or a request for help or for the version.
 abbrev pub CallsFor : List Text → Call → Type 0
@@ -36,11 +39,6 @@ CallsFor words (check file main) = (fault_of check_app words ≡ []) × (value_i
 CallsFor words help = RefusedBy words help
 CallsFor words version = RefusedBy words version
 CallsFor words faulty = RefusedBy words faulty
-
--- a file is to be checked
-abbrev pub ChecksFile : Call → Type 0
-ChecksFile (check file main) = Unit {0}
-ChecksFile _ = ⊥
 
 -- words call for one thing
 abbrev pub OneCall : Type 0

@@ -1,8 +1,8 @@
 //! The words of `check`.
 
-ghost use Rattle.std.specs.Prelude.{◌≡◌, IfOk, codes, string_bytes, map, true};
+ghost use Rattle.std.specs.Prelude.{◌≡◌, IfOk, codes, string_bytes, map};
 ghost use Rattle.clap.specs.Words.{app_of, takes, kind_of};
-ghost use Rattle.cc_words.specs.CheckLine.{check_app, CallsFor, ChecksFile, OneCall};
+ghost use Rattle.cc_words.specs.CheckLine.{check_app, CallsFor, OneCall};
 ghost use Rattle.cc_words.specs.Calls.{call_of};
 ghost use Rattle.cc_words.specs.Ends.{IsEnd};
 ghost use Rattle.cc_words.specs.Given.{Gives};
@@ -56,9 +56,7 @@ fn call_at<'a>(error: &Error) -> Result<CheckCall<'a>, Memory>
 
 /// Reads the words `check FILE [--main CLASS]`, the first of which is the command's name.
 pub fn read_check<'a>(alloc: Global, words: &'a [String]) -> Result<CheckCall<'a>, Memory>
-    ensures reads { IfOk result (λ call. CallsFor (map string_bytes words.entry.now) (call_of call)) }
-    // Words that clap takes are those of a file to be checked.
-    ensures takes { IfOk result (λ call. takes check_app (map string_bytes words.entry.now) ≡ true → ChecksFile (call_of call)) }
+    ensures { IfOk result (λ call. CallsFor (map string_bytes words.entry.now) (call_of call)) }
 {
     let Ok(command) = check_command(alloc) else {
         return Err(Memory);

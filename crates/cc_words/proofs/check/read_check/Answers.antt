@@ -1,24 +1,18 @@
 use Rattle.std.proofs.Common.{◌≡◌, ◌∙◌, sym, ap, subst, codes, map, string_bytes}
 use Rattle.clap.specs.Words.{App, app_of, fault_of, takes, is_simple_and_free, HasKind, kind_of}
 use Rattle.cc_words.specs.CheckLine.{check_app}
-use Rattle.cc_words.proofs.Line.{is_free, ended, ended_taken, value_by}
+use Rattle.cc_words.proofs.Line.{is_free, ended, value_by}
 use Rattle.cc_words.proofs.check.read_check.Goals as goal
 
-pub returns-in-Err-clause-reads : goal.returns-in-Err-clause-reads
-returns-in-Err-clause-reads c =
+pub returns-in-Err : goal.returns-in-Err
+returns-in-Err c =
     let words = map string_bytes c.args.words.now in
     let is : app_of c.in-Ok.command ≡ check_app = c.in-Ok.ensures.app in
     let kinds : HasKind (fault_of check_app words) c.in-Err.error = subst (λ (a : App). HasKind (fault_of a words) c.in-Err.error) is (c.in-Err.ensures.kinds (ap is_simple_and_free is ∙ is_free)) in
-    ended words (kind_of c.in-Err.error) c.call_at.result c.call_at.ensures kinds
+    ended words (kind_of c.in-Err.error) c.call_at.result c.call_at.ensures kinds (λ t. c.in-Err.ensures.passes (ap (λ (a : App). takes a words) is ∙ t))
 
-pub returns-in-Err-clause-takes : goal.returns-in-Err-clause-takes
-returns-in-Err-clause-takes c =
-    let words = map string_bytes c.args.words.now in
-    let is : app_of c.in-Ok.command ≡ check_app = c.in-Ok.ensures.app in
-    ended_taken words (kind_of c.in-Err.error) c.call_at.result c.call_at.ensures (λ u. c.in-Err.ensures.passes (ap (λ (a : App). takes a words) is ∙ u))
-
-pub returns-clause-reads : goal.returns-clause-reads
-returns-clause-reads c =
+pub returns : goal.returns
+returns c =
     let words = map string_bytes c.args.words.now in
     let is : app_of c.in-Ok.command ≡ check_app = c.in-Ok.ensures.app in
     let m = c.in-Ok-try_get_matches_from.matches in
