@@ -1,0 +1,4 @@
+pub mod Adding
+pub mod Standing
+pub mod Placed
+pub mod Finishing
