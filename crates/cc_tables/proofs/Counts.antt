@@ -1,13 +1,11 @@
 -- There are no more rows of a table than texts that are needed.
-use Rattle.std.proofs.Common.{◌≡◌, ℕ, ◌+◌, ◌^◌, ◌<◌, ◌≤◌, List, [], ◌∷◌, ◌++◌, length, map, arith}
+use Rattle.std.proofs.Common.{◌+◌, ◌≤◌, List, [], ◌∷◌, ◌++◌, length, arith}
 use Rattle.std.specs.List.{flat_map}
 use Rattle.std.proofs.lemmas.List.{length-append, length-map}
 use Rattle.cc_meaning.specs.declared.file.Ids.{Ids}
 use Rattle.cc_rows.specs.Rows.{FewRows}
-use Rattle.cc_tables.specs.declared.needs.NamedField.{NamedField}
-use Rattle.cc_tables.specs.declared.needs.NamedMethod.{NamedMethod}
 use Rattle.cc_tables.specs.declared.needs.Needs.{Needs}
-use Rattle.cc_tables.specs.Made.{AreProtosMade, AreTypesMade, HasFields, HasMethods, HasProtos, HasTypes}
+use Rattle.cc_tables.specs.Made.{AreProtosMade, AreTypesMade, HasMethods, HasProtos, HasTypes}
 use Rattle.cc_tables.specs.Needs.{descriptors_of, field_texts, method_texts, texts_of}
 use Rattle.cc_tables.specs.Places.{field_row_of, method_row_of, proto_row_of, text_place}
 
@@ -25,8 +23,14 @@ few_members : (needs : Needs) → length needs.fields + length needs.methods ≤
 few_members needs =
     let fields = flat_map field_texts needs.fields in
     let methods = flat_map method_texts needs.methods in
-    omega (arith, length-append needs.texts (descriptors_of needs ++ (fields ++ methods)), length-append (descriptors_of needs) (fields ++ methods), length-append fields methods,
-        each_some field_texts needs.fields (λ field. omega arith), each_some method_texts needs.methods (λ method. omega arith))
+    omega (
+      arith,
+      length-append needs.texts (descriptors_of needs ++ (fields ++ methods)),
+      length-append (descriptors_of needs) (fields ++ methods),
+      length-append fields methods,
+      each_some field_texts needs.fields (λ field. omega arith),
+      each_some method_texts needs.methods (λ method. omega arith),
+    )
 
 pub types_made : (needs : Needs) (ids : Ids) → HasTypes needs ids → AreTypesMade ids
 types_made needs ids has = record {

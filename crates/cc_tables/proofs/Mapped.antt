@@ -1,5 +1,5 @@
 -- What is in order by the keys of what things are mapped to.
-use Rattle.std.proofs.Common.{◌≡◌, Ok, Err, Result, List, ℕ, length, map, sym, ap, subst, ◌∙◌, arith}
+use Rattle.std.proofs.Common.{◌≡◌, Ok, Err, Result, List, ℕ, map, sym, subst, arith}
 use Rattle.std.specs.Prelude.{Contains, IfOk}
 use Rattle.std.proofs.lemmas.List.{length-map}
 use Rattle.std.proofs.lemmas.Simd.{map-map}

@@ -1,5 +1,5 @@
 -- What is named is among what is needed, and what is needed is named.
-use Rattle.std.proofs.Common.{◌≡◌, ◌⊎◌, inl, inr, ℕ, List, [], ◌∷◌, ◌++◌, refl, sym, ap, subst, ◌∙◌, arith}
+use Rattle.std.proofs.Common.{◌≡◌, inl, inr, ℕ, List, [], ◌∷◌, ◌++◌, sym, ap, subst}
 use Rattle.std.specs.Prelude.{Contains}
 use Rattle.std.specs.List.{flat_map}
 use Rattle.std.proofs.lemmas.List.Elements.{Contains-append_left, Contains-append_right, Contains-append_cases}
@@ -85,9 +85,9 @@ module _ (needs : Needs) where
   method_descriptor method name among here = elim (contains_cases method.class (method.result ∷ method.params) name here) [
     | inl same ↦ subst (NeedsDescriptor needs) same (method_class among)
     | inr later ↦ elim (contains_cases method.result method.params name later) [
-        | inl same ↦ subst (NeedsDescriptor needs) same (result among)
-        | inr behind ↦ param among behind
-      ]
+      | inl same ↦ subst (NeedsDescriptor needs) same (result among)
+      | inr behind ↦ param among behind
+    ]
   ]
 
   pub descriptor_needed : (name : List ℕ) → Contains (descriptors_of needs) name → NeedsDescriptor needs name
@@ -97,9 +97,9 @@ module _ (needs : Needs) where
       elim (Contains-append_cases needs.classes (fields ++ methods) name here) [
         | inl listed ↦ class listed
         | inr other ↦ elim (Contains-append_cases fields methods name other) [
-            | inl first ↦ let found = found_flat field_types needs.fields name first in field_descriptor found.0 name found.1 found.2
-            | inr second ↦ let found = found_flat method_types needs.methods name second in method_descriptor found.0 name found.1 found.2
-          ]
+          | inl first ↦ let found = found_flat field_types needs.fields name first in field_descriptor found.0 name found.1 found.2
+          | inr second ↦ let found = found_flat method_types needs.methods name second in method_descriptor found.0 name found.1 found.2
+        ]
       ]
 
   of_field : (field : NamedField) (name : List ℕ) → Contains needs.fields field → Contains (field_types field) name → Contains (descriptors_of needs) name
@@ -140,12 +140,12 @@ module _ (needs : Needs) where
       elim (Contains-append_cases needs.texts (descriptors_of needs ++ (fields ++ methods)) units here) [
         | inl listed ↦ text listed
         | inr other ↦ elim (Contains-append_cases (descriptors_of needs) (fields ++ methods) units other) [
-            | inl first ↦ descriptor first
-            | inr rest ↦ elim (Contains-append_cases fields methods units rest) [
-                | inl second ↦ let found = found_flat field_texts needs.fields units second in field_parts found.0 units found.1 found.2
-                | inr third ↦ let found = found_flat method_texts needs.methods units third in method_parts found.0 units found.1 found.2
-              ]
+          | inl first ↦ descriptor first
+          | inr rest ↦ elim (Contains-append_cases fields methods units rest) [
+            | inl second ↦ let found = found_flat field_texts needs.fields units second in field_parts found.0 units found.1 found.2
+            | inr third ↦ let found = found_flat method_texts needs.methods units third in method_parts found.0 units found.1 found.2
           ]
+        ]
       ]
 
   of_members : (units : List ℕ) → Contains (flat_map field_texts needs.fields ++ flat_map method_texts needs.methods) units → Contains (texts_of needs) units

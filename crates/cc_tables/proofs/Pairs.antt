@@ -1,5 +1,5 @@
 -- Two lists of things that belong together one by one.
-use Rattle.std.proofs.Common.{◌≡◌, ℕ, List, [], ◌∷◌, ◌++◌}
+use Rattle.std.proofs.Common.{List, [], ◌∷◌, ◌++◌}
 use Rattle.cc_meaning_classes.specs.Classes.{EachPair}
 
 -- one more of each

@@ -1,15 +1,14 @@
 -- Tables that are made of what well-formed names need are the tables of it.
-use Rattle.std.proofs.Common.{◌≡◌, ◌⊎◌, inl, inr, ℕ, zero, suc, ◌<◌, Bool, true, false, List, [], ◌∷◌, ◌++◌, length, map, get_or, Option, Some, None, slice_get, refl, sym, ap, subst, ◌∙◌, append_assoc, eqb, eqb-true, arith}
-use Rattle.std.specs.Prelude.{Contains, All, AllPairs, IsTrue, option_map, codes}
+use Rattle.std.proofs.Common.{◌≡◌, ◌⊎◌, inl, inr, ℕ, zero, suc, ◌<◌, Bool, true, false, List, [], ◌∷◌, ◌++◌, length, map, get_or, Option, Some, None, slice_get, refl, sym, ap, subst, ◌∙◌, append_assoc, eqb, eqb-true}
+use Rattle.std.specs.Prelude.{Contains, IsTrue, option_map}
 use Rattle.std.specs.List.{flat_map}
 use Rattle.std.specs.Ordering.{MatchOrdering, nat_cmp, ordering_then}
 use Rattle.std.specs.declared.cmp.Ordering.{Ordering}
 use Rattle.std.specs.declared.cmp.Ordering.TheVariants.{Less, Equal, Greater}
-use Rattle.std.proofs.lemmas.Cmp.{nat_list_cmp_total, ranked}
+use Rattle.std.proofs.lemmas.Cmp.{ranked}
 use Rattle.std.proofs.lemmas.List.{map-id}
 use Rattle.std.proofs.lemmas.List.Elements.{Contains-get_or, Contains-append_left, Contains-append_right, All-contains}
 use Rattle.std.proofs.lemmas.Option.{slice_get-get_or, slice_get_within, get_or_from_slice_get}
-use Rattle.cc_meaning.specs.declared.file.ClassRow.{ClassRow}
 use Rattle.cc_meaning.specs.declared.file.FieldRow.{FieldRow}
 use Rattle.cc_meaning.specs.declared.file.Ids.{Ids}
 use Rattle.cc_meaning.specs.declared.file.MethodRow.{MethodRow}
@@ -32,7 +31,7 @@ use Rattle.cc_tables.specs.declared.needs.NamedField.{NamedField}
 use Rattle.cc_tables.specs.declared.needs.NamedMethod.{NamedMethod}
 use Rattle.cc_tables.specs.declared.needs.Needs.{Needs}
 use Rattle.cc_tables.specs.Made.{AreMade}
-use Rattle.cc_tables.specs.Needs.{AreNeeds, descriptors_of, short_of, texts_of}
+use Rattle.cc_tables.specs.Needs.{AreNeeds, short_of}
 use Rattle.cc_tables.specs.Places.{alone, class_row_of, field_row_of, method_row_of, proto_place, proto_row_of, text_place, type_place}
 use Rattle.cc_tables.proofs.Among.{contains_first, contains_flat, contains_later}
 use Rattle.cc_tables.proofs.Needed.{NeedsDescriptor, NeedsUnits, class, class_named, descriptor, descriptor_needed, field_class, field_kind, field_name, field_named, method_class, method_name, method_named, named_class, named_field, named_method, named_text, needs_descriptor, needs_text, param, result, short, text, text_named, text_needed}

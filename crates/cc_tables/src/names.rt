@@ -6,9 +6,7 @@ ghost use Rattle.cc_meaning.specs.declared.listing.RowName.TheVariants as row;
 ghost use Rattle.cc_meaning_building.specs.Named.{all_names, catch_names, class_names, code_names, field_names, listed_names, method_names, try_names, value_names};
 
 use cc_list::List;
-use cc_meaning::listing::{
-    ListedCatch, ListedTry, ListedValue, Listing, Mark, RowName,
-};
+use cc_meaning::listing::{ListedCatch, ListedTry, ListedValue, Listing, Mark, RowName};
 use cc_meaning::lists::Units;
 use cc_meaning_building::content::{ListedClass, ListedField, ListedMethod};
 use std::alloc::{AllocError, Global};
@@ -98,11 +96,7 @@ fn add_value(all: &mut RowNames, value: &Option<ListedValue>) -> Result<(), Allo
 }
 
 /// Adds a field of a class, and the text that it begins with.
-fn add_field(
-    all: &mut RowNames,
-    class: &Units,
-    field: &ListedField,
-) -> Result<(), AllocError>
+fn add_field(all: &mut RowNames, class: &Units, field: &ListedField) -> Result<(), AllocError>
     ensures { OnOk result (all.new ≡ all.old ++ field_names class.now field.now) }
 {
     all.push(RowName::Field {
@@ -114,11 +108,7 @@ fn add_field(
 }
 
 /// Adds the fields of a class.
-fn add_fields(
-    all: &mut RowNames,
-    class: &Units,
-    fields: &[ListedField],
-) -> Result<(), AllocError>
+fn add_fields(all: &mut RowNames, class: &Units, fields: &[ListedField]) -> Result<(), AllocError>
     ensures { OnOk result (all.new ≡ all.old ++ flat_map (field_names class.now) fields.now) }
 {
     for field in fields {
@@ -128,11 +118,7 @@ fn add_fields(
 }
 
 /// Adds a method of a class, and what its code names.
-fn add_method(
-    all: &mut RowNames,
-    class: &Units,
-    method: &ListedMethod,
-) -> Result<(), AllocError>
+fn add_method(all: &mut RowNames, class: &Units, method: &ListedMethod) -> Result<(), AllocError>
     ensures { OnOk result (all.new ≡ all.old ++ method_names class.now method.now) }
 {
     all.push(RowName::Method {

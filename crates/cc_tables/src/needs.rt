@@ -114,11 +114,7 @@ fn named_fields(alloc: Global, names: &[RowName]) -> Result<NamedFields, AllocEr
 
 /// Adds what a name says if it is a method, with its prototype split.
 #[tactic(auto, using(crate::proofs::Pairs::each_push))]
-fn add_method(
-    alloc: Global,
-    all: &mut NamedMethods,
-    name: &RowName,
-) -> Result<(), Memory>
+fn add_method(alloc: Global, all: &mut NamedMethods, name: &RowName) -> Result<(), Memory>
     ensures { OnOk result ((names : List NameOfRow) → EachPair IsMethodNamed names all.old → EachPair IsMethodNamed (names ++ methods_in name.now) all.new) }
 {
     if let RowName::Method { class, name, proto } = name {

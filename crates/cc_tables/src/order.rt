@@ -90,7 +90,7 @@ impl Naming for ByMethod {
     }
 }
 
-/// Prototypes, by their numbers among these.
+/// Rows of prototypes, borrowed from a table: by their results, then by their parameters.
 #[derive(Clone, Copy)]
 struct ByPrototype<'a> {
     protos: &'a ProtoRows,

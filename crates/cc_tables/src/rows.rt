@@ -78,11 +78,7 @@ fn field_row(ids: &Ids, field: &NamedField) -> FieldRow
 }
 
 /// The rows of fields.
-pub fn field_rows(
-    alloc: Global,
-    ids: &Ids,
-    fields: &[NamedField],
-) -> Result<FieldRows, AllocError>
+pub fn field_rows(alloc: Global, ids: &Ids, fields: &[NamedField]) -> Result<FieldRows, AllocError>
     requires { AreTypesMade ids.now }
     ensures { IfOk result (λ rows. rows ≡ map (field_row_of ids.now) fields.now) }
 {

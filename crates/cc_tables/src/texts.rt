@@ -148,6 +148,7 @@ pub fn text_table(alloc: Global, needs: &Needs) -> Result<Texts, Memory>
     ensures all_few { OnOk result (length (texts_of needs.now) < 2 ^ 32) }
 {
     let all = texts_of(alloc, needs)?;
+    // a row's number has 32 bits
     u32::try_from(all.len()).map_err(|_| Memory)?;
     let given = only_texts(alloc, all);
     cc_names::texts(alloc, &given)

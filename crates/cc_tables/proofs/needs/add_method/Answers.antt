@@ -1,7 +1,5 @@
-use Rattle.std.proofs.Common.{refl, [], ◌∷◌, ◌++◌, subst, sym, rules}
 use Rattle.cc_meaning.specs.declared.listing.RowName.TheVariants as row
-use Rattle.cc_meaning_classes.specs.Classes.{EachPair}
-use Rattle.cc_tables.specs.Needs.{IsMethodNamed, methods_in}
+use Rattle.cc_tables.specs.Needs.{IsMethodNamed}
 use Rattle.cc_tables.proofs.Pairs.{each_push}
 use Rattle.cc_tables.proofs.needs.add_method.Goals as goal
 

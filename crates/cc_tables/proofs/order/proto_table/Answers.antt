@@ -1,5 +1,4 @@
-use Rattle.std.proofs.Common.{◌≡◌, Ok, Err, List, map, Bor, Result, subst, sym, ap, ◌∙◌}
-use Rattle.std.specs.Prelude.{IfOk}
+use Rattle.std.proofs.Common.{map, Bor, subst}
 use Rattle.cc_meaning.specs.declared.file.ProtoRow.{ProtoRow}
 use Rattle.cc_meaning_building.specs.Tables.{prototype_key}
 use Rattle.cc_names.specs.InOrder.{AreInOrder}
@@ -10,7 +9,7 @@ pub returns : goal.returns
 returns c =
     let borrowed : Bor ProtoRow → ProtoRow = λ row. row.now in
     let mapped : AreInOrder prototype_key (map borrowed c.in_ok-given.given) (map borrowed c.in_ok-sorted.sorted) =
-        in_order_mapped prototype_key borrowed c.in_ok-given.given c.in_ok-sorted.sorted c.in_ok-sorted.ensures in
+    in_order_mapped prototype_key borrowed c.in_ok-given.given c.in_ok-sorted.sorted c.in_ok-sorted.ensures in
     let made : AreInOrder prototype_key c.args.rows.now (map borrowed c.as_slice.result.now) =
-        rw (c.as_slice.ensures) (subst (λ given. AreInOrder prototype_key given (map borrowed c.in_ok-sorted.sorted)) c.in_ok-given.ensures mapped) in
+    rw (c.as_slice.ensures) (subst (λ given. AreInOrder prototype_key given (map borrowed c.in_ok-sorted.sorted)) c.in_ok-given.ensures mapped) in
     ok_copied (AreInOrder prototype_key c.args.rows.now) (map borrowed c.as_slice.result.now) made c.copies.result c.copies.ensures

@@ -1,5 +1,5 @@
 use Rattle.std.proofs.Common.{◌≡◌, map, take}
-use Rattle.cc_tables.specs.Places.{class_row_of, field_row_of, method_row_of, proto_row_of, text_place, type_place}
+use Rattle.cc_tables.specs.Places.{field_row_of}
 use Rattle.cc_tables.proofs.rows.field_rows.Given as goal
 
 abbrev pub invariant-loop-field : goal.invariant-loop-field

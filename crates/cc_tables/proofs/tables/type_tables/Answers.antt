@@ -2,7 +2,7 @@ use Rattle.std.proofs.Common.{◌≡◌, ◌<◌, ◌^◌, ℕ, List, length, ma
 use Rattle.cc_meaning.specs.declared.file.Ids.{Ids}
 use Rattle.cc_names.specs.InOrder.{AreInOrder}
 use Rattle.cc_tables.specs.Made.{IsTextTable}
-use Rattle.cc_tables.specs.Needs.{descriptors_of, texts_of}
+use Rattle.cc_tables.specs.Needs.{texts_of}
 use Rattle.cc_tables.specs.Places.{alone, text_place}
 use Rattle.cc_tables.proofs.tables.type_tables.Goals as goal
 
