@@ -1,6 +1,6 @@
 //! The values that static fields begin with.
 
-ghost use Rattle.std.specs.Prelude.{◌≡◌, map, take, IfOk};
+ghost use Rattle.std.specs.Prelude.{◌≡◌, map, take, IfOk, Some};
 ghost use Rattle.std.specs.List.{filter};
 ghost use Rattle.cc_meaning_building.specs.Members.{zero_of, FieldBegins, IsRawValue};
 ghost use Rattle.cc_meaning_building.specs.Named.{value_names};
@@ -8,7 +8,6 @@ ghost use Rattle.cc_meaning_building.specs.Tables.{AreOrdered};
 ghost use Rattle.cc_rows.specs.Rows.{FewRows};
 ghost use Rattle.cc_raw_classes.specs.Known.{AreKnown};
 ghost use Rattle.cc_raw_classes.specs.Placed.{said_count};
-ghost use Rattle.std.specs.Prelude.{Some};
 
 use crate::fields::PlacedField;
 use crate::rows::text_row;
