@@ -1,12 +1,19 @@
 //! A DEX file in the making.
 
 ghost use Rattle.std.specs.Prelude.{◌≡◌, ◌++◌, [], ◌∷◌, ◌+◌, ◌<◌, length, IfOk, OnOk, OnErr};
+ghost use Rattle.cc_meaning_building.specs.Built.{Built};
+ghost use Rattle.cc_meaning_building.specs.WellNamed.{WellNamed};
 ghost use Rattle.cc_builder.specs.Added.{units_of, new_class, new_field, new_method, with_interface, with_field, with_method, changed};
 
 use crate::text::{named_class, units_of};
+use cc_building_laws::written_is_read_again;
+use cc_file_writer::write_file;
+use cc_raw_classes::raw_classes;
+use cc_tables::tables_of;
 use cc_list::List;
 use cc_meaning::fault::Memory;
 use cc_meaning::listing::{ListedValue, Listing};
+use cc_meaning::lists::Bytes;
 use cc_meaning_building::content::{Content, ListedClass, ListedField, ListedMethod};
 use std::alloc::Global;
 use std::marker::Model;
@@ -143,5 +150,21 @@ impl DexBuilder {
         };
         self.classes.at_mut(class as usize).methods.push(method)?;
         Ok(())
+    }
+
+    /// The bytes of the file (Dalvik Executable format, section File layout): its tables in the order of the format, with a row for each thing that is named,
+    /// and the members with their code. Where all names are well formed, and the file is within the bounds of the format, it is read again: no fault is
+    /// there but in the code, tries or values that were added, and where none is, the file spells exactly the classes, members and code that were added.
+    ///
+    /// # Errors
+    ///
+    /// `Memory`: there is none for the file, or a table would have more than 2 ^ 32 rows.
+    pub fn finish(&self) -> Result<Bytes, Memory>
+        ensures { IfOk result (λ file. WellNamed self.now → Built self.now file) }
+    {
+        written_is_read_again();
+        let ids = tables_of(self.alloc, &self.classes)?;
+        let (classes, outs) = raw_classes(self.alloc, &self.classes, &ids)?;
+        write_file(self.alloc, &ids, &classes, &outs)
     }
 }

@@ -5,3 +5,4 @@ mod builder;
 mod text;
 
 pub use builder::DexBuilder;
+pub use text::units_of;
