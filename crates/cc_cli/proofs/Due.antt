@@ -9,9 +9,9 @@ use Rattle.cc_meaning.specs.declared.travel.Travel.{Travel}
 use Rattle.cc_meaning_plain.specs.declared.plain.Plain.{Plain}
 use Rattle.cc_meaning_plain.specs.Tables.{longest_file}
 use Rattle.cc_meaning_plain.specs.Laws.{PlainOnce}
-use Rattle.cc_cli.specs.declared.fault.Fault.{Fault}
-use Rattle.cc_cli.specs.declared.fault.Fault.TheVariants as faults
-use Rattle.cc_cli.specs.Faults.{status_of, fault_plan}
+use Rattle.cc_faults.specs.declared.fault.Fault.{Fault}
+use Rattle.cc_faults.specs.declared.fault.Fault.TheVariants as faults
+use Rattle.cc_faults.specs.Faults.{status_of, fault_plan}
 use Rattle.cc_cli.specs.Offloading.{LinkTells, Names, longest_text, ReadPlan, failed, absent, too_large, was_read, OffloadedPlan, TextPlan, PartitionPlan, ScriptPlan, FilePlan, OffloadPlan}
 use Rattle.cc_cli.specs.Statuses.{IsDue, DueByNext, DueByPartition, DueByScript, DueByFile, DueByFiles}
 

@@ -1,4 +1,3 @@
-pub mod Showing
 pub mod Planning
 pub mod Due
 pub mod Outcomes

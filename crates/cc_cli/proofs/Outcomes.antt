@@ -19,9 +19,9 @@ use Rattle.cc_meaning_plain.specs.Laws.{PlainOnce}
 use Rattle.cc_meaning_clone.specs.Hello.{no_script}
 use Rattle.cc_partition.specs.Partition.{IsPartition}
 use Rattle.cc_device.specs.Travelling.{FallsOnlySo}
-use Rattle.cc_cli.specs.declared.fault.Fault.{Fault}
-use Rattle.cc_cli.specs.declared.fault.Fault.TheVariants as faults
-use Rattle.cc_cli.specs.Faults.{status_of, fault_plan}
+use Rattle.cc_faults.specs.declared.fault.Fault.{Fault}
+use Rattle.cc_faults.specs.declared.fault.Fault.TheVariants as faults
+use Rattle.cc_faults.specs.Faults.{status_of, fault_plan}
 use Rattle.cc_cli.specs.Plans.{Returns}
 use Rattle.cc_cli.specs.Offloading.{LinkTells, Names, longest_text, ReadPlan, failed, absent, too_large, was_read, OffloadedPlan, Offloaded, TextPlan, PartitionPlan, ScriptPlan, FilePlan, OffloadPlan}
 use Rattle.cc_cli.specs.Runs.{Outside}

@@ -16,13 +16,13 @@ use Rattle.cc_meaning_plain.specs.declared.plain.Plain.{Plain}
 use Rattle.cc_meaning_plain.specs.Tables.{longest_file}
 use Rattle.cc_meaning_plain.specs.Plain.{IsPlain}
 use Rattle.cc_meaning_plain.specs.Laws.{PlainOnce}
-use Rattle.cc_cli.specs.declared.fault.Fault.{Fault}
-use Rattle.cc_cli.specs.declared.fault.Fault.TheVariants as faults
-use Rattle.cc_cli.specs.Faults.{status_of, fault_plan}
+use Rattle.cc_faults.specs.declared.fault.Fault.{Fault}
+use Rattle.cc_faults.specs.declared.fault.Fault.TheVariants as faults
+use Rattle.cc_faults.specs.Faults.{status_of, fault_plan}
 use Rattle.cc_cli.specs.Plans.{file_named, IsNotPlain, Returns, ran_plan, RunPlan, failed, absent, too_large, was_read}
 use Rattle.cc_cli.specs.Offloading.{LinkTells, Names, offload_named, OffloadedPlan}
 use Rattle.cc_cli.specs.Runs.{Outside, sources, CallPlan, WordsPlan, Runs}
-use Rattle.cc_cli.specs.Statuses.{DueBy, Says, RunsFile, OffloadsFiles, Statuses, Transparent}
+use Rattle.cc_cli.specs.Statuses.{IsOfRuns, DueBy, Says, RunsFile, OffloadsFiles, Statuses, Transparent}
 use Rattle.cc_cli.proofs.Outcomes.{is_transparent, Outcome, files_failed, file_absent, file_too_large, files_refused, file_ran, no_memory, outcome, ended_so, planned_files, memory_files}
 
 some_same : {A : Type 0} {a b : A} → Some a ≡ Some b → a ≡ b
@@ -213,7 +213,7 @@ module _ (plan : Plan) (old new : Outside) (s : ℕ) where
 
   -- the plan is that of a fault, of a run that returned, or of one that was offloaded
   abbrev IsKind : Type 0
-  IsKind = ((fault : Fault) × (name : List ℕ) × (plan ≡ fault_plan fault name)) ⊎ (((report : Report) × (plan ≡ ran_plan report)) ⊎ ((report : Report) × (travel : Travel) × OffloadedPlan report travel plan))
+  IsKind = ((fault : Fault) × (name : List ℕ) × (plan ≡ fault_plan fault name) × IsOfRuns fault) ⊎ (((report : Report) × (plan ≡ ran_plan report)) ⊎ ((report : Report) × (travel : Travel) × OffloadedPlan report travel plan))
 
   -- an offloaded run returned or stopped
   offloaded_status : (report : Report) (travel : Travel) → OffloadedPlan report travel plan → Planned → (s ≡ 0) ⊎ (s ≡ 2)
@@ -227,27 +227,23 @@ module _ (plan : Plan) (old new : Outside) (s : ℕ) where
       by (inr e) = inr (same ∙ e)
 
   run_kind : (name : List ℕ) → RunPlan old.known old.counts name new.counts plan → IsKind
-  run_kind name (failed h e) = inl (faults.ReadFault, name, e)
-  run_kind name (absent h r e) = inl (faults.Absent, name, e)
-  run_kind name (too_large h r e) = inl (faults.TooLarge, name, e)
-  run_kind name (was_read bytes is l (inl n)) = inl (faults.NotBuilt, name, n.1)
+  run_kind name (failed h e) = inl (faults.ReadFault, name, e, tt)
+  run_kind name (absent h r e) = inl (faults.Absent, name, e, tt)
+  run_kind name (too_large h r e) = inl (faults.TooLarge, name, e, tt)
+  run_kind name (was_read bytes is l (inl n)) = inl (faults.NotBuilt, name, n.1, tt)
   run_kind name (was_read bytes is l (inr d)) = inr (inl (d.0, d.2))
 
-  no_fault_is_72 : (fault : Fault) → status_of fault ≢ 72
-  no_fault_is_72 faults.Usage e = omega (arith, e)
-  no_fault_is_72 faults.Memory e = omega (arith, e)
-  no_fault_is_72 faults.ReadFault e = omega (arith, e)
-  no_fault_is_72 faults.Absent e = omega (arith, e)
-  no_fault_is_72 faults.TooLarge e = omega (arith, e)
-  no_fault_is_72 faults.NotBuilt e = omega (arith, e)
-
-  no_fault_is_2 : (fault : Fault) → status_of fault ≢ 2
-  no_fault_is_2 faults.Usage e = omega (arith, e)
-  no_fault_is_2 faults.Memory e = omega (arith, e)
-  no_fault_is_2 faults.ReadFault e = omega (arith, e)
-  no_fault_is_2 faults.Absent e = omega (arith, e)
-  no_fault_is_2 faults.TooLarge e = omega (arith, e)
-  no_fault_is_2 faults.NotBuilt e = omega (arith, e)
+  no_fault_is_72 : (fault : Fault) → IsOfRuns fault → status_of fault ≢ 72
+  no_fault_is_72 faults.Usage of e = omega (arith, e)
+  no_fault_is_72 faults.Memory of e = omega (arith, e)
+  no_fault_is_72 faults.ReadFault of e = omega (arith, e)
+  no_fault_is_72 faults.Absent of e = omega (arith, e)
+  no_fault_is_72 faults.TooLarge of e = omega (arith, e)
+  no_fault_is_72 faults.NotBuilt of e = omega (arith, e)
+  no_fault_is_72 (faults.Dex fault) of e = of
+  no_fault_is_72 (faults.Program fault) of e = of
+  no_fault_is_72 (faults.Verify name fault) of e = of
+  no_fault_is_72 faults.WriteFault of e = of
 
   -- a status that is 0 or 2 is no other
   neither : (k : ℕ) → (s ≡ 0) ⊎ (s ≡ 2) → s ≡ k → k ≢ 0 → k ≢ 2 → ⊥
@@ -255,7 +251,7 @@ module _ (plan : Plan) (old new : Outside) (s : ℕ) where
   neither k (inr z) e n m = m (sym e ∙ z)
 
   planned_not_72 : IsKind → Planned → s ≢ 72
-  planned_not_72 (inl f) a e = no_fault_is_72 f.0 (sym (fault_status f.0 f.1 f.2 a) ∙ e)
+  planned_not_72 (inl f) a e = no_fault_is_72 f.0 f.3 (sym (fault_status f.0 f.1 f.2 a) ∙ e)
   planned_not_72 (inr (inl r)) a e = omega (arith, ran_status r.0 r.1 a, e)
   planned_not_72 (inr (inr o)) a e = neither 72 (offloaded_status o.0 o.1 o.2 a) e (λ h. omega (arith, h)) (λ h. omega (arith, h))
 
@@ -271,29 +267,33 @@ module _ (plan : Plan) (old new : Outside) (s : ℕ) where
   quiet_by k (inr (inr (inl o))) z t m = absurd (m o.status)
   quiet_by k (inr (inr (inr o))) z t m = absurd (m o.status)
 
-  others_by : IsKind → Carried → (s ≡ 0) ⊎ ((s ≡ 2) ⊎ ((s ≡ 72) ⊎ ((fault : Fault) × (s ≡ status_of fault))))
-  others_by (inl f) (inl a) = inr (inr (inr (f.0, fault_status f.0 f.1 f.2 a)))
+  others_by : IsKind → Carried → (s ≡ 0) ⊎ ((s ≡ 2) ⊎ ((s ≡ 72) ⊎ ((fault : Fault) × IsOfRuns fault × (s ≡ status_of fault))))
+  others_by (inl f) (inl a) = inr (inr (inr (f.0, f.3, fault_status f.0 f.1 f.2 a)))
   others_by (inr (inl r)) (inl a) = inl (ran_status r.0 r.1 a)
   others_by (inr (inr o)) (inl a) = by (offloaded_status o.0 o.1 o.2 a)
     where
-      by : (s ≡ 0) ⊎ (s ≡ 2) → (s ≡ 0) ⊎ ((s ≡ 2) ⊎ ((s ≡ 72) ⊎ ((fault : Fault) × (s ≡ status_of fault))))
+      by : (s ≡ 0) ⊎ (s ≡ 2) → (s ≡ 0) ⊎ ((s ≡ 2) ⊎ ((s ≡ 72) ⊎ ((fault : Fault) × IsOfRuns fault × (s ≡ status_of fault))))
       by (inl e) = inl e
       by (inr e) = inr (inl e)
-  others_by k (inr (inl u)) = inr (inr (inr (faults.Memory, u.status)))
+  others_by k (inr (inl u)) = inr (inr (inr (faults.Memory, tt, u.status)))
   others_by k (inr (inr (inl o))) = inr (inr (inl o.status))
   others_by k (inr (inr (inr o))) = inr (inr (inl o.status))
 
   -- only the plan for want of memory has the status 70
-  is_memory : (fault : Fault) → status_of fault ≡ 70 → fault ≡ faults.Memory
-  is_memory faults.Usage e = absurd (omega (arith, e))
-  is_memory faults.Memory e = refl
-  is_memory faults.ReadFault e = absurd (omega (arith, e))
-  is_memory faults.Absent e = absurd (omega (arith, e))
-  is_memory faults.TooLarge e = absurd (omega (arith, e))
-  is_memory faults.NotBuilt e = absurd (omega (arith, e))
+  is_memory : (fault : Fault) → IsOfRuns fault → status_of fault ≡ 70 → fault ≡ faults.Memory
+  is_memory faults.Usage of e = absurd (omega (arith, e))
+  is_memory faults.Memory of e = refl
+  is_memory faults.ReadFault of e = absurd (omega (arith, e))
+  is_memory faults.Absent of e = absurd (omega (arith, e))
+  is_memory faults.TooLarge of e = absurd (omega (arith, e))
+  is_memory faults.NotBuilt of e = absurd (omega (arith, e))
+  is_memory (faults.Dex fault) of e = absurd of
+  is_memory (faults.Program fault) of e = absurd of
+  is_memory (faults.Verify name fault) of e = absurd of
+  is_memory faults.WriteFault of e = absurd of
 
   memory_by : IsKind → Carried → s ≡ 70 → (new.notes.text ≡ old.notes.text) ⊎ Says faults.Memory [] old new
-  memory_by (inl f) (inl a) z = inr (subst (λ (fault : Fault). Says fault f.1 old new) (is_memory f.0 (sym (fault_status f.0 f.1 f.2 a) ∙ z)) (fault_says f.0 f.1 f.2 a))
+  memory_by (inl f) (inl a) z = inr (subst (λ (fault : Fault). Says fault f.1 old new) (is_memory f.0 f.3 (sym (fault_status f.0 f.1 f.2 a) ∙ z)) (fault_says f.0 f.1 f.2 a))
   memory_by (inr (inl r)) (inl a) z = absurd (omega (arith, ran_status r.0 r.1 a, z))
   memory_by (inr (inr o)) (inl a) z = absurd (neither 70 (offloaded_status o.0 o.1 o.2 a) z (λ h. omega (arith, h)) (λ h. omega (arith, h)))
   memory_by k (inr (inl u)) z = inl u.notes
@@ -339,21 +339,21 @@ module _ (plan : Plan) (old new : Outside) (s : ℕ) where
     Call name names = CallPlan name names (sources old) (sources new) tells plan
 
     outcome_kind : (names : Names) → Outcome names plan old new tells → IsKind
-    outcome_kind names (files_failed name limit next rose e u) = inl (faults.ReadFault, name, e)
-    outcome_kind names (file_absent name limit next gone rose e u) = inl (faults.Absent, name, e)
-    outcome_kind names (file_too_large name limit next long rose e u) = inl (faults.TooLarge, name, e)
-    outcome_kind names (files_refused is e u) = inl (faults.NotBuilt, [], e)
+    outcome_kind names (files_failed name limit next rose e u) = inl (faults.ReadFault, name, e, tt)
+    outcome_kind names (file_absent name limit next gone rose e u) = inl (faults.Absent, name, e, tt)
+    outcome_kind names (file_too_large name limit next long rose e u) = inl (faults.TooLarge, name, e, tt)
+    outcome_kind names (files_refused is e u) = inl (faults.NotBuilt, [], e, tt)
     outcome_kind names (file_ran file plain text moved h0 h1 h2 h3 h4 o) = inr (inr (o.report, o.travel, o.is_plan))
-    outcome_kind names (no_memory e) = inl (faults.Memory, [], e)
+    outcome_kind names (no_memory e) = inl (faults.Memory, [], e, tt)
 
     call_kind : (name : Option (List ℕ)) (names : Option Names) → Call name names → IsKind
     call_kind (Some name) names h = run_kind name h.0
     call_kind None (Some names) h = outcome_kind names (outcome names plan old new tells h)
-    call_kind None None h = inl (faults.Usage, [], h.0)
+    call_kind None None h = inl (faults.Usage, [], h.0, tt)
 
     words_kind : (words : List (List ℕ)) → WordsPlan words (sources old) (sources new) tells plan → IsKind
     words_kind words (inl h) = call_kind (file_named words) (offload_named words) h
-    words_kind words (inr e) = inl (faults.Memory, [], e)
+    words_kind words (inr e) = inl (faults.Memory, [], e, tt)
 
     no_outcome_is_usage : (names : Names) → Outcome names plan old new tells → Planned → s ≡ 64 → ⊥
     no_outcome_is_usage names (files_failed name limit next rose e u) a z = omega (arith, fault_status faults.ReadFault name e a, z)

@@ -1,4 +1,3 @@
-pub mod Faults
 pub mod Plans
 pub mod Offloading
 pub mod Runs

@@ -22,8 +22,8 @@ use Rattle.cc_meaning_clone.specs.Hello.{no_script}
 use Rattle.cc_meaning_device.specs.Complete.{moved_calls}
 use Rattle.cc_partition.specs.Partition.{IsPartition}
 use Rattle.cc_device.specs.Travelling.{moves_of, Offloads, FallsOnlySo, LastEnds}
-use Rattle.cc_cli.specs.declared.fault.Fault.TheVariants as faults
-use Rattle.cc_cli.specs.Faults.{fault_plan}
+use Rattle.cc_faults.specs.declared.fault.Fault.TheVariants as faults
+use Rattle.cc_faults.specs.Faults.{fault_plan}
 use Rattle.cc_cli.specs.Plans.{IsNotPlain, Returns}
 
 -- ---- the link

@@ -13,8 +13,8 @@ use Rattle.cc_meaning_plain.specs.Tables.{longest_file}
 use Rattle.cc_meaning_plain.specs.Plain.{IsPlain}
 use Rattle.cc_meaning_plain.specs.Program.{setting_of}
 use Rattle.cc_meaning_plain.specs.Laws.{default_limits}
-use Rattle.cc_cli.specs.declared.fault.Fault.TheVariants as faults
-use Rattle.cc_cli.specs.Faults.{fault_plan}
+use Rattle.cc_faults.specs.declared.fault.Fault.TheVariants as faults
+use Rattle.cc_faults.specs.Faults.{fault_plan}
 
 -- the file in the words `run FILE`, which are just these two
 abbrev pub file_named : List (List ℕ) → Option (List ℕ)

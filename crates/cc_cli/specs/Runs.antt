@@ -5,8 +5,8 @@ use Rattle.cc_outside.specs.Sinks.{Pipe}
 use Rattle.cc_link.specs.Links as links
 use Rattle.cc_plan.specs.declared.plan.Plan.{Plan}
 use Rattle.cc_plan.specs.Carrying.{Ends}
-use Rattle.cc_cli.specs.declared.fault.Fault.TheVariants as faults
-use Rattle.cc_cli.specs.Faults.{fault_plan}
+use Rattle.cc_faults.specs.declared.fault.Fault.TheVariants as faults
+use Rattle.cc_faults.specs.Faults.{fault_plan}
 use Rattle.cc_cli.specs.Plans.{file_named, RunPlan}
 use Rattle.cc_cli.specs.Offloading.{LinkTells, Names, offload_named, OffloadPlan}
 

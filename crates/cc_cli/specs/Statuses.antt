@@ -15,9 +15,9 @@ use Rattle.cc_device.specs.Travelling.{moves_of, Offloads, FallsOnlySo, LastEnds
 use Rattle.cc_meaning_plain.specs.declared.plain.Plain.{Plain}
 use Rattle.cc_meaning_plain.specs.Tables.{longest_file}
 use Rattle.cc_meaning_plain.specs.Plain.{IsPlain}
-use Rattle.cc_cli.specs.declared.fault.Fault.{Fault}
-use Rattle.cc_cli.specs.declared.fault.Fault.TheVariants as faults
-use Rattle.cc_cli.specs.Faults.{status_of, line_of}
+use Rattle.cc_faults.specs.declared.fault.Fault.{Fault}
+use Rattle.cc_faults.specs.declared.fault.Fault.TheVariants as faults
+use Rattle.cc_faults.specs.Faults.{status_of, line_of}
 use Rattle.cc_cli.specs.Plans.{file_named, IsNotPlain, Returns}
 use Rattle.cc_cli.specs.Offloading.{LinkTells, Names, offload_named, longest_text, job_of, MovesNoneOf}
 use Rattle.cc_cli.specs.Runs.{Outside}
@@ -136,6 +136,19 @@ pub record OffloadsFiles (names : Names) (old : Outside) (s : ℕ) (new : Outsid
 
 -- ---- all commands
 
+-- the faults of runs, which judge no classes and write no files
+abbrev pub IsOfRuns : Fault → Type 0
+IsOfRuns faults.Usage = Unit {0}
+IsOfRuns (faults.Dex fault) = ⊥
+IsOfRuns (faults.Program fault) = ⊥
+IsOfRuns (faults.Verify name fault) = ⊥
+IsOfRuns faults.Memory = Unit {0}
+IsOfRuns faults.ReadFault = Unit {0}
+IsOfRuns faults.WriteFault = ⊥
+IsOfRuns faults.Absent = Unit {0}
+IsOfRuns faults.TooLarge = Unit {0}
+IsOfRuns faults.NotBuilt = Unit {0}
+
 pub record Statuses (words : List (List ℕ)) (old : Outside) (s : ℕ) (new : Outside) (tells : LinkTells) : Type 0 where
   -- the words are no command, and the shelf and the link were left alone
   pub usage : s ≡ 64 → (file_named words ≡ None) × (offload_named words ≡ None) × (new.counts ≡ old.counts) × tells.untouched × Says faults.Usage [] old new
@@ -149,7 +162,7 @@ pub record Statuses (words : List (List ℕ)) (old : Outside) (s : ℕ) (new : O
   pub no_output : s ≢ 0 → s ≢ 2 → s ≢ 72 → new.out.text ≡ old.out.text
   -- `run` never stops
   pub stopped : s ≡ 2 → (names : Names) × (offload_named words ≡ Some names)
-  pub others : (s ≡ 0) ⊎ ((s ≡ 2) ⊎ ((s ≡ 72) ⊎ ((fault : Fault) × (s ≡ status_of fault))))
+  pub others : (s ≡ 0) ⊎ ((s ≡ 2) ⊎ ((s ≡ 72) ⊎ ((fault : Fault) × IsOfRuns fault × (s ≡ status_of fault))))
 
 -- ---- what offloading is for
 

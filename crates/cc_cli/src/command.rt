@@ -9,8 +9,8 @@ ghost use Rattle.cc_link.specs.Links as links;
 ghost use Rattle.cc_cli.specs.Offloading.{tells_of, offload_named};
 ghost use Rattle.cc_cli.specs.Runs.{Sources, CallPlan, WordsPlan};
 
-use crate::fault::Fault;
 use crate::offload::{offload_files, offload_named};
+use cc_faults::Fault;
 use cc_link::Link;
 use cc_machine::run;
 use cc_meaning::lists::Bytes;

@@ -2,9 +2,7 @@
 #![tactic(auto)]
 
 mod command;
-mod fault;
 mod offload;
 mod run;
-mod shown;
 
 pub use run::run_words;

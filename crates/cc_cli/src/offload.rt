@@ -12,8 +12,8 @@ ghost use Rattle.cc_cli.specs.Plans.{IsNotPlain};
 ghost use Rattle.cc_cli.specs.Offloading.{tells_of, all_names, offload_named, longest_text, UnreadPlan, job_of, ReadPlan, OffloadedPlan, Offloaded, TextPlan, PartitionPlan, ScriptPlan, FilePlan, OffloadPlan};
 
 use crate::command::{DEFAULT_LIMITS, LONGEST_FILE};
-use crate::fault::Fault;
 use cc_device::offload;
+use cc_faults::Fault;
 use cc_lines::{ended_line, ended_status, put_travel_line};
 use cc_link::Link;
 use cc_meaning::fault::Memory;

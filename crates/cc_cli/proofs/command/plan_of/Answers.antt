@@ -1,4 +1,4 @@
-use Rattle.std.proofs.Common.{◌≡◌, [], refl, map, string_bytes}
+use Rattle.std.proofs.Common.{refl, map, string_bytes}
 use Rattle.cc_cli.specs.Plans.{file_named}
 use Rattle.cc_cli.specs.Offloading.{tells_of, offload_named}
 use Rattle.cc_cli.specs.Runs.{Sources}

@@ -1,4 +1,4 @@
-use Rattle.std.proofs.Common.{refl, ◌≡◌, []}
+use Rattle.std.proofs.Common.{refl}
 use Rattle.cc_outside.specs.Shelves as shelf
 use Rattle.cc_plan.specs.declared.plan.Plan.{Plan}
 use Rattle.cc_meaning_plain.specs.Tables.{longest_file}

@@ -1,4 +1,4 @@
-use Rattle.std.proofs.Common.{◌≡◌, [], subst}
+use Rattle.std.proofs.Common.{subst}
 use Rattle.std.specs.Prelude.{IfOk}
 use Rattle.cc_meaning.specs.declared.file.Job.{Job}
 use Rattle.cc_cli.specs.Offloading.{tells_of, Offloaded}

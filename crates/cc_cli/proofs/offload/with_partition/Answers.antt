@@ -1,4 +1,4 @@
-use Rattle.std.proofs.Common.{refl, ◌≡◌, []}
+use Rattle.std.proofs.Common.{refl}
 use Rattle.cc_cli.specs.Offloading.{tells_of, all_names, longest_text, TextPlan, PartitionPlan}
 use Rattle.cc_cli.proofs.Offloading.{on_plan, then_read}
 use Rattle.cc_cli.proofs.offload.with_partition.Goals as goal

@@ -1,4 +1,3 @@
-use Rattle.std.proofs.Common.{◌≡◌, []}
 use Rattle.cc_outside.specs.Shelves as shelf
 use Rattle.cc_plan.specs.declared.plan.Plan.{Plan}
 use Rattle.cc_cli.specs.Offloading.{tells_of, all_names, longest_text, ScriptPlan}

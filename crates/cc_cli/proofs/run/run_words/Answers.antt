@@ -1,4 +1,4 @@
-use Rattle.std.proofs.Common.{string_bytes, map, refl, ◌≡◌, []}
+use Rattle.std.proofs.Common.{string_bytes, map, refl}
 use Rattle.cc_cli.specs.Offloading.{tells_of}
 use Rattle.cc_cli.specs.Runs.{Outside}
 use Rattle.cc_cli.proofs.Statuses.{statuses, no_plan, transparent}
