@@ -1,6 +1,8 @@
-//! Tests of the whole reader, over files that a small writer makes. They stand in a crate of their own, since a crate with tests is proved twice.
+//! Tests of the whole reader, and of what checking a file finds, over files that a small writer makes. They stand in a crate of their own, since a crate with tests is proved twice.
 #![tactic(auto)]
 
+#[cfg(test)]
+mod checks;
 #[cfg(test)]
 mod faults;
 #[cfg(test)]

@@ -242,3 +242,12 @@ pub fn adds_floats(alloc: Global) -> Result<Vec<u8>, AllocError> {
     };
     file(alloc, &TABLES_WITH_U, &[class_a(&[PRINTS_SUM, adds])])
 }
+
+/// That program, but that its `main` adds a register that holds nothing: `const/4 v1, 3`, `add-int/2addr v1, v2`, `return-void`.
+pub fn adds_unset(alloc: Global) -> Result<Vec<u8>, AllocError> {
+    let main = Method {
+        units: &[0x3112, 0x21b0, 0x000e],
+        ..PRINTS_SUM
+    };
+    file(alloc, &TABLES, &[class_a(&[main])])
+}

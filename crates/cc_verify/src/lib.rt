@@ -7,4 +7,5 @@ mod table;
 mod tries;
 mod verdict;
 
+pub use table::units;
 pub use verdict::verify;

@@ -1,0 +1,3 @@
+mod OneAnswer
+mod Naming
+mod Refusing

@@ -1,0 +1,54 @@
+//! What checking finds of a file.
+
+use crate::reading::text;
+use crate::sample::{adds_floats, adds_unset, prints_sum};
+use cc_check::{CheckFault, Summary, check_bytes, load_program};
+use cc_meaning::fault::{InsnFault, ProgramFault, VerifyFault};
+use std::test::Fail;
+
+/// What `prints_sum` has.
+const SUM: Summary = Summary {
+    classes: 1,
+    methods: 1,
+    units: 9,
+};
+
+#[test]
+fn accepts_a_program(rt: HostRuntime) -> Result<(), Fail> {
+    let alloc = rt.alloc();
+    let file = prints_sum(alloc)?;
+    assert_eq!(rt; check_bytes(alloc, &file, None)?, SUM);
+    assert_eq!(rt; check_bytes(alloc, &file, Some("LA;"))?, SUM);
+    let verified = load_program(alloc, &file, None)?;
+    assert_eq!(rt; verified.program().methods.len(), 69);
+    Ok(())
+}
+
+#[test]
+fn refuses_an_unset_register(rt: HostRuntime) -> Result<(), Fail> {
+    let alloc = rt.alloc();
+    let file = adds_unset(alloc)?;
+    let found = check_bytes(alloc, &file, None);
+    let Err(CheckFault::Verify { method, fault }) = found else {
+        return Err("verified")?;
+    };
+    let name = text(alloc, method.as_slice())?;
+    assert_eq!(rt; name.as_str(), "LA;->main([Ljava/lang/String;)V");
+    assert!(rt; matches!(fault, VerifyFault::IllTyped { pc: 1, .. }));
+    Ok(())
+}
+
+#[test]
+fn refuses_floats_and_other_classes(rt: HostRuntime) -> Result<(), Fail> {
+    let alloc = rt.alloc();
+    let file = adds_floats(alloc)?;
+    let Err(CheckFault::Program(ProgramFault::Insn { fault, .. })) = check_bytes(alloc, &file, None)
+    else {
+        return Err("read")?;
+    };
+    assert!(rt; matches!(fault, InsnFault::Float));
+    let file = prints_sum(alloc)?;
+    let found = check_bytes(alloc, &file, Some("LB;"));
+    assert!(rt; matches!(&found, Err(CheckFault::Program(ProgramFault::NoMain))));
+    Ok(())
+}

@@ -1,0 +1,2 @@
+mod FirstCauses
+mod FirstFaults
