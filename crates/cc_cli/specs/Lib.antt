@@ -2,3 +2,4 @@ pub mod Plans
 pub mod Offloading
 pub mod Runs
 pub mod Statuses
+pub mod Checking

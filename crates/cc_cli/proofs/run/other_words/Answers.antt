@@ -2,7 +2,7 @@ use Rattle.std.proofs.Common.{string_bytes, map, refl}
 use Rattle.cc_cli.specs.Offloading.{tells_of}
 use Rattle.cc_cli.specs.Runs.{Outside}
 use Rattle.cc_cli.proofs.Statuses.{statuses, no_plan, transparent}
-use Rattle.cc_cli.proofs.run.run_words.Goals as goal
+use Rattle.cc_cli.proofs.run.other_words.Goals as goal
 
 pub returns-in-Some-clause-statuses : goal.returns-in-Some-clause-statuses
 returns-in-Some-clause-statuses g c =

@@ -1,0 +1,4 @@
+pub mod Planning
+pub mod Told
+pub mod Due
+pub mod Statuses
