@@ -1,59 +1,68 @@
 //! Code items.
 
-use crate::reading::{expect_fault, read_file};
+use crate::draft::Draft;
+use crate::reading::{expect_fault, read, read_draft};
 use crate::sample::{
-    A, ABSTRACT, INTS, METHOD_OF_A_AGAIN, NATIVE, OF_B, PLAIN, STATIC, TAKES_THREE, simple,
-    with_code, without_code,
+    ABSTRACT, CLASS_A, CLASS_B, INTS, METHOD_OF_C, NATIVE, OF_B, PLAIN, STATIC, TAKES_THREE,
+    direct_method, sample, simple, static_field,
 };
-use crate::writer::{Class, Code, Data, Handler, Handlers, Member, Members, Method, Try, Value};
+use crate::tried::{StatedTry, put_tried, tried};
+use cc_meaning::file::{RawCatch, RawClasses};
+use std::alloc::Global;
+use std::process::Abort;
 use std::test::Fail;
 
-/// Class A with these direct methods, whose code these are.
-const fn class_a<'a>(directs: &'a [Method], codes: &'a [Code<'a>]) -> Class<'a> {
-    Class {
-        class: A,
-        data: Data::Listed(Members {
-            statics: &[],
-            instances: &[],
-            directs,
-            virtuals: &[],
-        }),
-        codes,
-        values: None,
+/// A code item's place of how many units it has (Dalvik Executable format, section code_item).
+const UNIT_COUNT: u32 = 12;
+
+/// Tries that the methods of class A have this code, without tries: registers, registers of arguments, and units.
+fn expect_code(
+    rt: &impl Abort,
+    classes: &RawClasses,
+    wanted: &[(u16, u16, &[u16])],
+) -> Result<(), Fail> {
+    let Some(class) = classes.get(CLASS_A) else {
+        return Err("no class")?;
+    };
+    assert_eq!(rt; class.methods.len(), wanted.len());
+    for (method, (registers, ins, units)) in class.methods.iter().zip(wanted) {
+        let Some(code) = &method.code else {
+            return Err("no code")?;
+        };
+        assert_eq!(rt; (code.registers, code.ins), (*registers, *ins));
+        assert_eq!(rt; code.units.as_slice(), *units);
+        assert!(rt; code.tries.is_empty());
     }
+    Ok(())
 }
 
 #[test]
 fn reads_code(rt: HostRuntime) -> Result<(), Fail> {
-    let codes = [
-        simple(5, 0),
-        Code {
-            units: &[0x1012, 0x00ff, 0xff00, 0x000e],
-            ..simple(4, 4)
-        },
-    ];
-    let methods = [
-        with_code(PLAIN, STATIC, 0),
-        with_code(TAKES_THREE - PLAIN, 1, 1),
-        with_code(METHOD_OF_A_AGAIN - TAKES_THREE, STATIC, 0),
-    ];
-    let read = read_file(rt.alloc(), &[class_a(&methods, &codes)])?;
-    assert_eq!(rt; read.len(), 1);
-    let wanted: [(u16, u16, &[u16]); 3] = [
+    let file = sample(rt.alloc())?;
+    let classes = read(rt.alloc(), file.as_slice())?;
+    let wanted: [(u16, u16, &[u16]); 2] = [
         (5, 0, &[0x000e]),
         (4, 4, &[0x1012, 0x00ff, 0xff00, 0x000e]),
-        (5, 0, &[0x000e]),
     ];
-    assert_eq!(rt; read[0].methods.len(), wanted.len());
-    for (method, (registers, ins, units)) in read[0].methods.iter().zip(wanted) {
-        let Some(code) = &method.code else {
-            return Err("no code")?;
-        };
-        assert_eq!(rt; (code.registers, code.ins), (registers, ins));
-        assert_eq!(rt; code.units.as_slice(), units);
-        assert!(rt; code.tries.is_empty());
-    }
-    Ok(())
+    expect_code(&rt, &classes, &wanted)
+}
+
+/// Two methods may name one code item. Class C is made a second row of the type A, so that its method is one of A.
+#[test]
+fn reads_shared_code(rt: HostRuntime) -> Result<(), Fail> {
+    let mut draft = Draft::new(rt.alloc())?;
+    let shared = draft.put_code(&simple(rt.alloc(), 5, 0)?)?;
+    let own = draft.put_code(&simple(rt.alloc(), 6, 4)?)?;
+    let methods = [
+        direct_method(PLAIN, STATIC, shared),
+        direct_method(TAKES_THREE, 1, own),
+        direct_method(METHOD_OF_C, STATIC, shared),
+    ];
+    draft.put_members(CLASS_A, &[], &methods)?;
+    draft.unite_types();
+    let classes = read_draft(draft)?;
+    let wanted: [(u16, u16, &[u16]); 3] = [(5, 0, &[0x000e]), (6, 4, &[0x000e]), (5, 0, &[0x000e])];
+    expect_code(&rt, &classes, &wanted)
 }
 
 #[test]
@@ -75,9 +84,10 @@ fn judges_arguments(rt: HostRuntime) -> Result<(), Fail> {
         (TAKES_THREE, 1, 3, 4, three),
     ];
     for (row, flags, registers, ins, want) in cases {
-        let codes = [simple(registers, ins)];
-        let methods = [with_code(row, flags, 0)];
-        expect_fault(&rt, rt.alloc(), &[class_a(&methods, &codes)], want)?;
+        let mut draft = Draft::new(rt.alloc())?;
+        let at = draft.put_code(&simple(rt.alloc(), registers, ins)?)?;
+        draft.put_members(CLASS_A, &[], &[direct_method(row, flags, at)])?;
+        expect_fault(&rt, draft, want)?;
     }
     Ok(())
 }
@@ -96,24 +106,17 @@ fn judges_whether_there_is_code(rt: HostRuntime) -> Result<(), Fail> {
         (STATIC + NATIVE + ABSTRACT, false, ""),
     ];
     for (flags, has_code, want) in cases {
-        let method = if has_code {
-            with_code(PLAIN, flags, 0)
-        } else {
-            without_code(PLAIN, flags)
-        };
-        expect_fault(
-            &rt,
-            rt.alloc(),
-            &[class_a(&[method], &[simple(0, 0)])],
-            want,
-        )?;
+        let mut draft = Draft::new(rt.alloc())?;
+        let at = draft.put_code(&simple(rt.alloc(), 0, 0)?)?;
+        let named = if has_code { at } else { 0 };
+        draft.put_members(CLASS_A, &[], &[direct_method(PLAIN, flags, named)])?;
+        expect_fault(&rt, draft, want)?;
     }
     Ok(())
 }
 
 #[test]
 fn judges_where_code_ends(rt: HostRuntime) -> Result<(), Fail> {
-    let methods = [with_code(PLAIN, STATIC, 0)];
     // Behind the unit stand the eight bytes of the class data, and then the file ends.
     for (count, want) in [
         (1, ""),
@@ -121,110 +124,88 @@ fn judges_where_code_ends(rt: HostRuntime) -> Result<(), Fail> {
         (6, "BadCode { method: 0 }"),
         (u32::MAX, "BadCode { method: 0 }"),
     ] {
-        let code = Code {
-            unit_count: Some(count),
-            ..simple(0, 0)
-        };
-        expect_fault(&rt, rt.alloc(), &[class_a(&methods, &[code])], want)?;
+        let mut draft = Draft::new(rt.alloc())?;
+        let at = draft.put_code(&simple(rt.alloc(), 0, 0)?)?;
+        draft.set_number(at.saturating_add(UNIT_COUNT) as usize, count);
+        let before = draft.end();
+        draft.put_members(CLASS_A, &[], &[direct_method(PLAIN, STATIC, at)])?;
+        assert_eq!(rt; draft.end().saturating_sub(before), 8);
+        expect_fault(&rt, draft, want)?;
     }
-    let at_100000 = [0, 0, 1, 0, 0, 8, 0xa0, 0x8d, 0x06];
-    let class = Class {
-        data: Data::Raw(&at_100000),
-        ..class_a(&[], &[])
-    };
-    expect_fault(&rt, rt.alloc(), &[class], "BadCode { method: 0 }")
+    Ok(())
 }
 
+#[test]
+fn judges_where_code_stands(rt: HostRuntime) -> Result<(), Fail> {
+    for offset in [100_000, u32::MAX] {
+        let mut draft = Draft::new(rt.alloc())?;
+        let methods = [direct_method(PLAIN, STATIC, offset)];
+        draft.put_members(CLASS_A, &[], &methods)?;
+        expect_fault(&rt, draft, "BadCode { method: 0 }")?;
+    }
+    Ok(())
+}
+
+/// A handler that takes all.
+const TAKES_ALL: [RawCatch; 1] = [RawCatch { row: None, at: 0 }];
+
 /// A try whose handler begins nowhere.
-const BAD_TRY: [Try; 1] = [Try {
+const BAD_TRY: [StatedTry; 1] = [StatedTry {
     start: 0,
     count: 1,
     handler: 9,
 }];
 
-/// A handler that takes all.
-const TAKES_ALL: [Handler; 1] = [Handler {
-    first: None,
-    second: None,
-    all: Some(0),
-}];
-
-/// Code that takes so many registers for arguments, with a bad try or with none.
-const fn code_by<'a>(ins: u16, has_bad_try: bool) -> Code<'a> {
-    Code {
-        tries: if has_bad_try { &BAD_TRY } else { &[] },
-        handlers: Handlers::Listed(&TAKES_ALL),
-        ..simple(0, ins)
-    }
+/// Puts code that takes so many registers for arguments, with a bad try or with none, and answers where it stands.
+fn put_code_by(draft: &mut Draft, ins: u16, has_bad_try: bool) -> Result<u32, Fail> {
+    let alloc = draft.alloc();
+    let at = if has_bad_try {
+        let code = tried(alloc, ins, &[0x000e], &[&TAKES_ALL])?;
+        put_tried(draft, &code, &BAD_TRY)?
+    } else {
+        draft.put_code(&simple(alloc, 0, ins)?)?
+    };
+    Ok(at)
 }
 
-/// The two methods of the class whose faults are judged in order.
-const BOTH: [Method; 2] = [
-    Method {
-        step: PLAIN,
-        flags: STATIC,
-        code: Some(0),
-    },
-    Method {
-        step: METHOD_OF_A_AGAIN - PLAIN,
-        flags: STATIC,
-        code: Some(1),
-    },
-];
-
-/// A boolean, which no int is.
-const WRONG_VALUE: [Value; 1] = [Value {
-    form: 0x1f,
-    argument: 0,
-    bits: 0,
-    size: 0,
-}];
-
-/// A static field of class A, and one of class B.
-const OF_A: [Member; 1] = [Member {
-    step: INTS,
-    flags: STATIC,
-}];
-
-const OF_ANOTHER: [Member; 1] = [Member {
-    step: OF_B,
-    flags: STATIC,
-}];
-
-/// Class A with a static field, of its own or of another class, with a wrong value, and with two methods whose code these are.
-const fn class_of<'a>(codes: &'a [Code<'a>], has_own_field: bool) -> Class<'a> {
-    Class {
-        class: A,
-        data: Data::Listed(Members {
-            statics: if has_own_field { &OF_A } else { &OF_ANOTHER },
-            instances: &[],
-            directs: &BOTH,
-            virtuals: &[],
-        }),
-        codes,
-        values: Some(&WRONG_VALUE),
-    }
+/// The file with a static field in class A, of its own or of another class, with a wrong value, and with two methods: of each, how many registers its
+/// arguments take, where none is right, and whether it has a bad try. The class behind has class data nowhere, and class C's method is one of A.
+fn with_faults(
+    alloc: Global,
+    first: (u16, bool),
+    second: (u16, bool),
+    field: u32,
+) -> Result<Draft, Fail> {
+    let mut draft = Draft::new(alloc)?;
+    let one = put_code_by(&mut draft, first.0, first.1)?;
+    let two = put_code_by(&mut draft, second.0, second.1)?;
+    let fields = [static_field(field, STATIC)];
+    let methods = [
+        direct_method(PLAIN, STATIC, one),
+        direct_method(METHOD_OF_C, STATIC, two),
+    ];
+    draft.put_members(CLASS_A, &fields, &methods)?;
+    // An array of one value, which is false: no int is.
+    let values = draft.put(&[1, 0x1f])?;
+    draft.set_values(CLASS_A, values);
+    draft.set_members(CLASS_B, u32::MAX);
+    draft.unite_types();
+    Ok(draft)
 }
 
 #[test]
 fn judges_in_order(rt: HostRuntime) -> Result<(), Fail> {
-    // Of each of two methods: how many registers its arguments take, where none is right, and whether it has a bad try.
     let cases = [
-        ((0, true), (1, true), false, "BadClassData { class: 0 }"),
-        ((0, true), (1, false), true, "BadCode { method: 3 }"),
-        ((1, true), (1, true), true, "BadCode { method: 0 }"),
-        ((0, false), (0, true), true, "BadTry { method: 3 }"),
-        ((0, true), (0, true), true, "BadTry { method: 0 }"),
-        ((0, false), (0, false), true, "BadValue { class: 0 }"),
+        ((0, true), (1, true), OF_B, "BadClassData { class: 0 }"),
+        ((0, true), (1, false), INTS, "BadCode { method: 3 }"),
+        ((1, true), (1, true), INTS, "BadCode { method: 0 }"),
+        ((0, false), (0, true), INTS, "BadTry { method: 3 }"),
+        ((0, true), (0, true), INTS, "BadTry { method: 0 }"),
+        ((0, false), (0, false), INTS, "BadValue { class: 0 }"),
     ];
-    for (first, second, has_own_field, want) in cases {
-        let codes = [code_by(first.0, first.1), code_by(second.0, second.1)];
-        let later = Class {
-            data: Data::At(u32::MAX),
-            ..class_a(&[], &[])
-        };
-        let classes = [class_of(&codes, has_own_field), later];
-        expect_fault(&rt, rt.alloc(), &classes, want)?;
+    for (first, second, field, want) in cases {
+        let draft = with_faults(rt.alloc(), first, second, field)?;
+        expect_fault(&rt, draft, want)?;
     }
     Ok(())
 }

@@ -4,14 +4,16 @@
 #[cfg(test)]
 mod code;
 #[cfg(test)]
+mod draft;
+#[cfg(test)]
 mod members;
 #[cfg(test)]
 mod reading;
 #[cfg(test)]
 mod sample;
 #[cfg(test)]
+mod tried;
+#[cfg(test)]
 mod tries;
 #[cfg(test)]
 mod values;
-#[cfg(test)]
-mod writer;

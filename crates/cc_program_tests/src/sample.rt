@@ -1,244 +1,186 @@
-//! The files of these tests: their tables are the same, and they differ in their classes.
+//! The files of these tests.
 
-use crate::writer::{Class, Method, Tables, file};
-use std::alloc::{AllocError, Global};
+ghost use Rattle.std.specs.Prelude.{◌≡◌, ◌<◌, length, IfOk};
 
-// Rows of types, each that of its text too.
-const A: u32 = 0;
+use cc_assembly::{Assembler, AssemblyFault, field, method};
+use cc_builder::DexBuilder;
+use cc_list::List;
+use cc_meaning::instruction::{How, Insn, IntOp, Kind, MethodRef};
+use cc_meaning::lists::Bytes;
+use std::alloc::Global;
 
-const OBJECT: u32 = 1;
+/// Access flags.
+const PUBLIC: u32 = 0x1;
 
-const STRING: u32 = 2;
+const PUBLIC_STATIC: u32 = 0x9;
 
-const STRINGS: u16 = 3;
+const OBJECT: &str = "Ljava/lang/Object;";
 
-const SYSTEM: u16 = 4;
+const PRINT_STREAM: &str = "Ljava/io/PrintStream;";
 
-const PRINT_STREAM: u16 = 5;
+/// What `main` is given and gives.
+const OF_TEXTS: &str = "([Ljava/lang/String;)V";
 
-const INT: u16 = 6;
+/// A file of one class, A, below this one.
+fn below(alloc: Global, superclass: &str) -> Result<DexBuilder, AssemblyFault>
+    ensures { IfOk result (λ builder. length builder ≡ 1) }
+{
+    let mut builder = DexBuilder::new(alloc)?;
+    builder.class("LA;", superclass, PUBLIC)?;
+    Ok(builder)
+}
 
-const VOID: u32 = 7;
+/// Adds a method with code to a class.
+fn add(
+    builder: &mut DexBuilder,
+    class: u32,
+    name: &str,
+    proto: &str,
+    code: Assembler,
+) -> Result<(), AssemblyFault>
+    requires { class < length builder.old }
+    ensures { length builder.new ≡ length builder.old }
+{
+    let code = code.finish()?;
+    builder.method(class, name, proto, PUBLIC_STATIC, Some(code))?;
+    Ok(())
+}
 
-const DOUBLE: u32 = 8;
+/// Adds `invoke-virtual {v0, v1}, println(I)V`.
+fn put_println(code: &mut Assembler) -> Result<(), AssemblyFault> {
+    let println = method(code.alloc(), PRINT_STREAM, "println", "(I)V")?;
+    let insn = Insn::Invoke {
+        how: How::Virtual,
+        named: MethodRef::Row(0),
+        args: List::from_slice(code.alloc(), &[0, 1])?,
+    };
+    code.put_named(insn, println)
+}
 
-// Rows of texts that name members.
-const MAIN: u32 = 9;
-
-const MEIN: u32 = 10;
-
-const HALF: u32 = 11;
-
-const PRINTLN: u32 = 12;
-
-const OUT: u32 = 13;
-
-// Rows of methods. There are four of them.
-const A_MAIN: u32 = 0;
-
-const A_MEIN: u32 = 1;
-
-const A_HALF: u32 = 2;
-
-const TABLES: Tables<'static> = Tables {
-    texts: &[
-        "LA;",
-        "Ljava/lang/Object;",
-        "Ljava/lang/String;",
-        "[Ljava/lang/String;",
-        "Ljava/lang/System;",
-        "Ljava/io/PrintStream;",
-        "I",
-        "V",
-        "D",
-        "main",
-        "mein",
-        "half",
-        "println",
-        "out",
-    ],
-    types: &[0, 1, 2, 3, 4, 5, 6, 7, 8],
-    protos: &[(VOID, &[STRINGS]), (VOID, &[INT]), (DOUBLE, &[])],
-    fields: &[(SYSTEM, PRINT_STREAM, OUT)],
-    methods: &[
-        (A as u16, 0, MAIN),
-        (A as u16, 0, MEIN),
-        (A as u16, 2, HALF),
-        (PRINT_STREAM, 1, PRINTLN),
-    ],
-};
-
-/// The row of the text `u`.
-const U: u32 = 14;
-
-/// Those tables, and a row of methods behind the others: `u()V` of class A.
-const TABLES_WITH_U: Tables<'static> = Tables {
-    texts: &[
-        "LA;",
-        "Ljava/lang/Object;",
-        "Ljava/lang/String;",
-        "[Ljava/lang/String;",
-        "Ljava/lang/System;",
-        "Ljava/io/PrintStream;",
-        "I",
-        "V",
-        "D",
-        "main",
-        "mein",
-        "half",
-        "println",
-        "out",
-        "u",
-    ],
-    types: &[0, 1, 2, 3, 4, 5, 6, 7, 8],
-    protos: &[
-        (VOID, &[STRINGS]),
-        (VOID, &[INT]),
-        (DOUBLE, &[]),
-        (VOID, &[]),
-    ],
-    fields: &[(SYSTEM, PRINT_STREAM, OUT)],
-    methods: &[
-        (A as u16, 0, MAIN),
-        (A as u16, 0, MEIN),
-        (A as u16, 2, HALF),
-        (PRINT_STREAM, 1, PRINTLN),
-        (A as u16, 3, U),
-    ],
-};
-
-/// A `main` that prints 3 + 4: `sget-object v0, System.out`, `const/4 v1, 3`, `const/4 v2, 4`, `add-int/2addr v1, v2`,
+/// The code that prints 3 + 4: `sget-object v0, System.out`, `const/4 v1, 3`, `const/4 v2, 4`, `add-int/2addr v1, v2`,
 /// `invoke-virtual {v0, v1}, println(I)V`, `return-void`.
-const PRINTS_SUM: Method<'static> = Method {
-    step: A_MAIN,
-    ins: 1,
-    units: &[0x0062, 0, 0x3112, 0x4212, 0x21b0, 0x206e, 3, 0x0010, 0x000e],
-};
+fn printing(alloc: Global) -> Result<Assembler, AssemblyFault> {
+    let mut code = Assembler::new(alloc, 4);
+    let out = field(alloc, "Ljava/lang/System;", "out", PRINT_STREAM)?;
+    let get = Insn::StaticGet {
+        kind: Kind::Object,
+        to: 0,
+        field: 0,
+    };
+    code.put_named(get, out)?;
+    code.put(Insn::ConstInt { to: 1, value: 3 })?;
+    code.put(Insn::ConstInt { to: 2, value: 4 })?;
+    code.put(Insn::IntOp {
+        op: IntOp::Add,
+        to: 1,
+        left: 1,
+        right: 2,
+    })?;
+    put_println(&mut code)?;
+    code.put(Insn::ReturnVoid)?;
+    Ok(code)
+}
 
-/// Class A, below Object, with these methods.
-const fn class_a<'a>(methods: &'a [Method<'a>]) -> Class<'a> {
-    Class {
-        class: A,
-        superclass: OBJECT,
-        methods,
-    }
+/// Code of these units.
+fn of_units(alloc: Global, units: &[u16]) -> Result<Assembler, AssemblyFault> {
+    let mut code = Assembler::new(alloc, 4);
+    code.put_units(units)?;
+    Ok(code)
+}
+
+/// A file whose class A is below this one and prints 3 + 4 in its `main`.
+fn prints_below(alloc: Global, superclass: &str) -> Result<DexBuilder, AssemblyFault>
+    ensures { IfOk result (λ builder. length builder ≡ 1) }
+{
+    let mut builder = below(alloc, superclass)?;
+    let code = printing(alloc)?;
+    add(&mut builder, 0, "main", OF_TEXTS, code)?;
+    Ok(builder)
 }
 
 /// A program that prints 3 + 4.
-pub fn prints_sum(alloc: Global) -> Result<Vec<u8>, AllocError> {
-    file(alloc, &TABLES, &[class_a(&[PRINTS_SUM])])
-}
-
-/// That program, but that its class is below another one.
-fn below(alloc: Global, superclass: u32) -> Result<Vec<u8>, AllocError> {
-    let class = Class {
-        superclass,
-        ..class_a(&[PRINTS_SUM])
-    };
-    file(alloc, &TABLES, &[class])
+pub fn prints_sum(alloc: Global) -> Result<Bytes, AssemblyFault> {
+    let builder = prints_below(alloc, OBJECT)?;
+    Ok(builder.finish()?)
 }
 
 /// A class below itself.
-pub fn extends_itself(alloc: Global) -> Result<Vec<u8>, AllocError> {
-    below(alloc, A)
+pub fn extends_itself(alloc: Global) -> Result<Bytes, AssemblyFault> {
+    let builder = prints_below(alloc, "LA;")?;
+    Ok(builder.finish()?)
 }
 
 /// A class below String.
-pub fn extends_string(alloc: Global) -> Result<Vec<u8>, AllocError> {
-    below(alloc, STRING)
+pub fn extends_string(alloc: Global) -> Result<Bytes, AssemblyFault> {
+    let builder = prints_below(alloc, "Ljava/lang/String;")?;
+    Ok(builder.finish()?)
 }
 
 /// A class that names no superclass.
-pub fn extends_nothing(alloc: Global) -> Result<Vec<u8>, AllocError> {
-    below(alloc, u32::MAX)
+pub fn extends_nothing(alloc: Global) -> Result<Bytes, AssemblyFault> {
+    let builder = prints_below(alloc, "")?;
+    Ok(builder.finish()?)
 }
 
-/// The program whose `main` has another name.
-pub fn misnames_main(alloc: Global) -> Result<Vec<u8>, AllocError> {
-    let mein = Method {
-        step: A_MEIN,
-        ..PRINTS_SUM
-    };
-    file(alloc, &TABLES, &[class_a(&[mein])])
+/// A program whose `main` has another name.
+pub fn misnames_main(alloc: Global) -> Result<Bytes, AssemblyFault> {
+    let mut builder = below(alloc, OBJECT)?;
+    let code = printing(alloc)?;
+    add(&mut builder, 0, "mein", OF_TEXTS, code)?;
+    Ok(builder.finish()?)
 }
 
 /// Two definitions of class A.
-pub fn defines_twice(alloc: Global) -> Result<Vec<u8>, AllocError> {
-    let class = class_a(&[PRINTS_SUM]);
-    file(alloc, &TABLES, &[class, class])
+pub fn defines_twice(alloc: Global) -> Result<Bytes, AssemblyFault> {
+    let mut builder = prints_below(alloc, OBJECT)?;
+    let again = builder.class("LA;", OBJECT, PUBLIC)?;
+    let code = printing(alloc)?;
+    add(&mut builder, again, "main", OF_TEXTS, code)?;
+    Ok(builder.finish()?)
 }
 
-/// A method whose result is a double.
-pub fn returns_double(alloc: Global) -> Result<Vec<u8>, AllocError> {
-    let half = Method {
-        step: A_HALF - A_MAIN,
-        ins: 0,
-        units: &[0x000e],
-    };
-    file(alloc, &TABLES, &[class_a(&[PRINTS_SUM, half])])
+/// That program with a method whose result is a double.
+pub fn returns_double(alloc: Global) -> Result<Bytes, AssemblyFault> {
+    let mut builder = prints_below(alloc, OBJECT)?;
+    let half = of_units(alloc, &[0x000e])?;
+    add(&mut builder, 0, "half", "()D", half)?;
+    Ok(builder.finish()?)
 }
 
-/// Behind a `nop` an `invoke-static` of row 4, of a table with four rows.
-pub fn invokes_no_row(alloc: Global) -> Result<Vec<u8>, AllocError> {
-    let main = Method {
-        units: &[0x0000, 0x0071, 4, 0, 0x000e],
-        ..PRINTS_SUM
-    };
-    file(alloc, &TABLES, &[class_a(&[main])])
+/// A file whose `main` has these units.
+fn has_units(alloc: Global, units: &[u16]) -> Result<Bytes, AssemblyFault> {
+    let mut builder = below(alloc, OBJECT)?;
+    let code = of_units(alloc, units)?;
+    add(&mut builder, 0, "main", OF_TEXTS, code)?;
+    Ok(builder.finish()?)
+}
+
+/// Behind a `nop` an `invoke-static` of row 1 of the methods, of which there is one.
+pub fn invokes_no_row(alloc: Global) -> Result<Bytes, AssemblyFault> {
+    has_units(alloc, &[0x0000, 0x0071, 1, 0, 0x000e])
 }
 
 /// Behind two instructions an unused opcode.
-pub fn has_unused_opcode(alloc: Global) -> Result<Vec<u8>, AllocError> {
-    let main = Method {
-        units: &[0x3112, 0x4212, 0x003e],
-        ..PRINTS_SUM
-    };
-    file(alloc, &TABLES, &[class_a(&[main])])
-}
-
-/// The tables of a file with two classes that have a `main` each.
-const TWO: Tables<'static> = Tables {
-    texts: &[
-        "LA;",
-        "LB;",
-        "Ljava/lang/Object;",
-        "[Ljava/lang/String;",
-        "V",
-        "main",
-    ],
-    types: &[0, 1, 2, 3, 4],
-    protos: &[(4, &[3])],
-    fields: &[],
-    methods: &[(0, 0, 5), (1, 0, 5)],
-};
-
-/// Class B and then class A, each with a `main` that returns at once.
-pub fn has_two_mains(alloc: Global) -> Result<Vec<u8>, AllocError> {
-    let of_a = Method {
-        step: 0,
-        ins: 1,
-        units: &[0x000e],
-    };
-    let of_b = Method { step: 1, ..of_a };
-    let a = Class {
-        class: 0,
-        superclass: 2,
-        methods: &[of_a],
-    };
-    let b = Class {
-        class: 1,
-        superclass: 2,
-        methods: &[of_b],
-    };
-    file(alloc, &TWO, &[b, a])
+pub fn has_unused_opcode(alloc: Global) -> Result<Bytes, AssemblyFault> {
+    has_units(alloc, &[0x3112, 0x4212, 0x003e])
 }
 
 /// That program with a method `u()V`: `add-float v0, v0, v0`, `return-void`.
-pub fn adds_floats(alloc: Global) -> Result<Vec<u8>, AllocError> {
-    let adds = Method {
-        step: 4,
-        ins: 0,
-        units: &[0x00a6, 0, 0x000e],
-    };
-    file(alloc, &TABLES_WITH_U, &[class_a(&[PRINTS_SUM, adds])])
+pub fn adds_floats(alloc: Global) -> Result<Bytes, AssemblyFault> {
+    let mut builder = prints_below(alloc, OBJECT)?;
+    let adds = of_units(alloc, &[0x00a6, 0, 0x000e])?;
+    add(&mut builder, 0, "u", "()V", adds)?;
+    Ok(builder.finish()?)
+}
+
+/// Class B and then class A, each with a `main` that returns at once.
+pub fn has_two_mains(alloc: Global) -> Result<Bytes, AssemblyFault> {
+    let mut builder = DexBuilder::new(alloc)?;
+    let b = builder.class("LB;", OBJECT, PUBLIC)?;
+    let code = of_units(alloc, &[0x000e])?;
+    add(&mut builder, b, "main", OF_TEXTS, code)?;
+    let a = builder.class("LA;", OBJECT, PUBLIC)?;
+    let code = of_units(alloc, &[0x000e])?;
+    add(&mut builder, a, "main", OF_TEXTS, code)?;
+    Ok(builder.finish()?)
 }
