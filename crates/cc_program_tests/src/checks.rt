@@ -17,9 +17,9 @@ const SUM: Summary = Summary {
 fn accepts_a_program(rt: HostRuntime) -> Result<(), Fail> {
     let alloc = rt.alloc();
     let file = prints_sum(alloc)?;
-    assert_eq!(rt; check_bytes(alloc, &file, None)?, SUM);
-    assert_eq!(rt; check_bytes(alloc, &file, Some("LA;"))?, SUM);
-    let verified = load_program(alloc, &file, None)?;
+    assert_eq!(rt; check_bytes(alloc, file.as_slice(), None)?, SUM);
+    assert_eq!(rt; check_bytes(alloc, file.as_slice(), Some("LA;"))?, SUM);
+    let verified = load_program(alloc, file.as_slice(), None)?;
     assert_eq!(rt; verified.program().methods.len(), 69);
     Ok(())
 }
@@ -28,7 +28,7 @@ fn accepts_a_program(rt: HostRuntime) -> Result<(), Fail> {
 fn refuses_an_unset_register(rt: HostRuntime) -> Result<(), Fail> {
     let alloc = rt.alloc();
     let file = adds_unset(alloc)?;
-    let found = check_bytes(alloc, &file, None);
+    let found = check_bytes(alloc, file.as_slice(), None);
     let Err(CheckFault::Verify { method, fault }) = found else {
         return Err("verified")?;
     };
@@ -42,13 +42,13 @@ fn refuses_an_unset_register(rt: HostRuntime) -> Result<(), Fail> {
 fn refuses_floats_and_other_classes(rt: HostRuntime) -> Result<(), Fail> {
     let alloc = rt.alloc();
     let file = adds_floats(alloc)?;
-    let Err(CheckFault::Program(ProgramFault::Insn { fault, .. })) = check_bytes(alloc, &file, None)
+    let Err(CheckFault::Program(ProgramFault::Insn { fault, .. })) = check_bytes(alloc, file.as_slice(), None)
     else {
         return Err("read")?;
     };
     assert!(rt; matches!(fault, InsnFault::Float));
     let file = prints_sum(alloc)?;
-    let found = check_bytes(alloc, &file, Some("LB;"));
+    let found = check_bytes(alloc, file.as_slice(), Some("LB;"));
     assert!(rt; matches!(&found, Err(CheckFault::Program(ProgramFault::NoMain))));
     Ok(())
 }

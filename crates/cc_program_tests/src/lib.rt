@@ -1,4 +1,4 @@
-//! Tests of the whole reader, and of what checking a file finds, over files that a small writer makes. They stand in a crate of their own, since a crate with tests is proved twice.
+//! Tests of the whole reader, and of what checking a file finds, over files that are built. They stand in a crate of their own, since a crate with tests is proved twice.
 #![tactic(auto)]
 
 #[cfg(test)]
@@ -11,5 +11,3 @@ mod reading;
 mod sample;
 #[cfg(test)]
 mod whole;
-#[cfg(test)]
-mod writer;

@@ -1,253 +1,194 @@
-//! The files of these tests: their tables are the same, and they differ in their classes.
+//! The files of these tests.
 
-use crate::writer::{Class, Method, Tables, file};
-use std::alloc::{AllocError, Global};
+ghost use Rattle.std.specs.Prelude.{◌≡◌, ◌<◌, length, IfOk};
 
-// Rows of types, each that of its text too.
-const A: u32 = 0;
+use cc_assembly::{AssemblyFault, Member, ProgramCode, Step, assemble};
+use cc_builder::DexBuilder;
+use cc_meaning::instruction::{How, IntOp, Kind};
+use cc_meaning::lists::Bytes;
+use std::alloc::Global;
 
-const OBJECT: u32 = 1;
+/// Access flags.
+const PUBLIC: u32 = 0x1;
 
-const STRING: u32 = 2;
+const PUBLIC_STATIC: u32 = 0x9;
 
-const STRINGS: u16 = 3;
+const OBJECT: &str = "Ljava/lang/Object;";
 
-const SYSTEM: u16 = 4;
+/// What `main` is given and gives.
+const OF_TEXTS: &str = "([Ljava/lang/String;)V";
 
-const PRINT_STREAM: u16 = 5;
-
-const INT: u16 = 6;
-
-const VOID: u32 = 7;
-
-const DOUBLE: u32 = 8;
-
-// Rows of texts that name members.
-const MAIN: u32 = 9;
-
-const MEIN: u32 = 10;
-
-const HALF: u32 = 11;
-
-const PRINTLN: u32 = 12;
-
-const OUT: u32 = 13;
-
-// Rows of methods. There are four of them.
-const A_MAIN: u32 = 0;
-
-const A_MEIN: u32 = 1;
-
-const A_HALF: u32 = 2;
-
-const TABLES: Tables<'static> = Tables {
-    texts: &[
-        "LA;",
-        "Ljava/lang/Object;",
-        "Ljava/lang/String;",
-        "[Ljava/lang/String;",
-        "Ljava/lang/System;",
-        "Ljava/io/PrintStream;",
-        "I",
-        "V",
-        "D",
-        "main",
-        "mein",
-        "half",
-        "println",
-        "out",
-    ],
-    types: &[0, 1, 2, 3, 4, 5, 6, 7, 8],
-    protos: &[(VOID, &[STRINGS]), (VOID, &[INT]), (DOUBLE, &[])],
-    fields: &[(SYSTEM, PRINT_STREAM, OUT)],
-    methods: &[
-        (A as u16, 0, MAIN),
-        (A as u16, 0, MEIN),
-        (A as u16, 2, HALF),
-        (PRINT_STREAM, 1, PRINTLN),
-    ],
+/// `System.out`.
+const OUT: Member<'static> = Member {
+    class: "Ljava/lang/System;",
+    name: "out",
+    ty: "Ljava/io/PrintStream;",
 };
 
-/// The row of the text `u`.
-const U: u32 = 14;
-
-/// Those tables, and a row of methods behind the others: `u()V` of class A.
-const TABLES_WITH_U: Tables<'static> = Tables {
-    texts: &[
-        "LA;",
-        "Ljava/lang/Object;",
-        "Ljava/lang/String;",
-        "[Ljava/lang/String;",
-        "Ljava/lang/System;",
-        "Ljava/io/PrintStream;",
-        "I",
-        "V",
-        "D",
-        "main",
-        "mein",
-        "half",
-        "println",
-        "out",
-        "u",
-    ],
-    types: &[0, 1, 2, 3, 4, 5, 6, 7, 8],
-    protos: &[
-        (VOID, &[STRINGS]),
-        (VOID, &[INT]),
-        (DOUBLE, &[]),
-        (VOID, &[]),
-    ],
-    fields: &[(SYSTEM, PRINT_STREAM, OUT)],
-    methods: &[
-        (A as u16, 0, MAIN),
-        (A as u16, 0, MEIN),
-        (A as u16, 2, HALF),
-        (PRINT_STREAM, 1, PRINTLN),
-        (A as u16, 3, U),
-    ],
+/// Prints an int.
+const PRINT_INT: Member<'static> = Member {
+    class: "Ljava/io/PrintStream;",
+    name: "println",
+    ty: "(I)V",
 };
 
-/// A `main` that prints 3 + 4: `sget-object v0, System.out`, `const/4 v1, 3`, `const/4 v2, 4`, `add-int/2addr v1, v2`,
-/// `invoke-virtual {v0, v1}, println(I)V`, `return-void`.
-const PRINTS_SUM: Method<'static> = Method {
-    step: A_MAIN,
-    ins: 1,
-    units: &[0x0062, 0, 0x3112, 0x4212, 0x21b0, 0x206e, 3, 0x0010, 0x000e],
-};
+/// A file of one class, A, below this one.
+fn below(alloc: Global, superclass: &str) -> Result<DexBuilder, AssemblyFault>
+    ensures { IfOk result (λ builder. length builder ≡ 1) }
+{
+    let mut builder = DexBuilder::new(alloc)?;
+    builder.class("LA;", superclass, PUBLIC)?;
+    Ok(builder)
+}
 
-/// Class A, below Object, with these methods.
-const fn class_a<'a>(methods: &'a [Method<'a>]) -> Class<'a> {
-    Class {
-        class: A,
-        superclass: OBJECT,
-        methods,
-    }
+/// Adds a static method to a class, with code of four registers.
+fn add(
+    alloc: Global,
+    builder: &mut DexBuilder,
+    class: u32,
+    named: (&str, &str),
+    steps: &[Step<'_>],
+) -> Result<(), AssemblyFault>
+    requires { class < length builder.old }
+    ensures { length builder.new ≡ length builder.old }
+{
+    let code = ProgramCode {
+        registers: 4,
+        labels: 0,
+        steps,
+        tries: &[],
+    };
+    let listing = assemble(alloc, &code)?;
+    builder.method(class, named.0, named.1, PUBLIC_STATIC, Some(listing))?;
+    Ok(())
+}
+
+/// Adds a method that prints 3 + 4 to a class.
+fn add_printing(
+    alloc: Global,
+    builder: &mut DexBuilder,
+    class: u32,
+    name: &str,
+) -> Result<(), AssemblyFault>
+    requires { class < length builder.old }
+    ensures { length builder.new ≡ length builder.old }
+{
+    let steps = [
+        Step::Static(Kind::Object, 0, OUT),
+        Step::Const(1, 3),
+        Step::Const(2, 4),
+        Step::Op(IntOp::Add, 1, 2),
+        Step::Invoke(How::Virtual, &[0, 1], PRINT_INT),
+        Step::ReturnVoid,
+    ];
+    add(alloc, builder, class, (name, OF_TEXTS), &steps)
+}
+
+/// A file whose class A is below this one and prints 3 + 4 in its `main`.
+fn prints_below(alloc: Global, superclass: &str) -> Result<DexBuilder, AssemblyFault>
+    ensures { IfOk result (λ builder. length builder ≡ 1) }
+{
+    let mut builder = below(alloc, superclass)?;
+    add_printing(alloc, &mut builder, 0, "main")?;
+    Ok(builder)
+}
+
+/// The bytes of a file.
+fn bytes(builder: &DexBuilder) -> Result<Bytes, AssemblyFault> {
+    let bytes = builder.finish()?;
+    Ok(bytes)
 }
 
 /// A program that prints 3 + 4.
-pub fn prints_sum(alloc: Global) -> Result<Vec<u8>, AllocError> {
-    file(alloc, &TABLES, &[class_a(&[PRINTS_SUM])])
-}
-
-/// That program, but that its class is below another one.
-fn below(alloc: Global, superclass: u32) -> Result<Vec<u8>, AllocError> {
-    let class = Class {
-        superclass,
-        ..class_a(&[PRINTS_SUM])
-    };
-    file(alloc, &TABLES, &[class])
+pub fn prints_sum(alloc: Global) -> Result<Bytes, AssemblyFault> {
+    bytes(&prints_below(alloc, OBJECT)?)
 }
 
 /// A class below itself.
-pub fn extends_itself(alloc: Global) -> Result<Vec<u8>, AllocError> {
-    below(alloc, A)
+pub fn extends_itself(alloc: Global) -> Result<Bytes, AssemblyFault> {
+    bytes(&prints_below(alloc, "LA;")?)
 }
 
 /// A class below String.
-pub fn extends_string(alloc: Global) -> Result<Vec<u8>, AllocError> {
-    below(alloc, STRING)
+pub fn extends_string(alloc: Global) -> Result<Bytes, AssemblyFault> {
+    bytes(&prints_below(alloc, "Ljava/lang/String;")?)
 }
 
 /// A class that names no superclass.
-pub fn extends_nothing(alloc: Global) -> Result<Vec<u8>, AllocError> {
-    below(alloc, u32::MAX)
+pub fn extends_nothing(alloc: Global) -> Result<Bytes, AssemblyFault> {
+    bytes(&prints_below(alloc, "")?)
 }
 
-/// The program whose `main` has another name.
-pub fn misnames_main(alloc: Global) -> Result<Vec<u8>, AllocError> {
-    let mein = Method {
-        step: A_MEIN,
-        ..PRINTS_SUM
-    };
-    file(alloc, &TABLES, &[class_a(&[mein])])
+/// A program whose `main` has another name.
+pub fn misnames_main(alloc: Global) -> Result<Bytes, AssemblyFault> {
+    let mut builder = below(alloc, OBJECT)?;
+    add_printing(alloc, &mut builder, 0, "mein")?;
+    bytes(&builder)
 }
 
 /// Two definitions of class A.
-pub fn defines_twice(alloc: Global) -> Result<Vec<u8>, AllocError> {
-    let class = class_a(&[PRINTS_SUM]);
-    file(alloc, &TABLES, &[class, class])
+pub fn defines_twice(alloc: Global) -> Result<Bytes, AssemblyFault> {
+    let mut builder = prints_below(alloc, OBJECT)?;
+    let again = builder.class("LA;", OBJECT, PUBLIC)?;
+    add_printing(alloc, &mut builder, again, "main")?;
+    bytes(&builder)
 }
 
-/// A method whose result is a double.
-pub fn returns_double(alloc: Global) -> Result<Vec<u8>, AllocError> {
-    let half = Method {
-        step: A_HALF - A_MAIN,
-        ins: 0,
-        units: &[0x000e],
-    };
-    file(alloc, &TABLES, &[class_a(&[PRINTS_SUM, half])])
+/// That program with a method whose result is a double.
+pub fn returns_double(alloc: Global) -> Result<Bytes, AssemblyFault> {
+    let mut builder = prints_below(alloc, OBJECT)?;
+    add(alloc, &mut builder, 0, ("half", "()D"), &[Step::ReturnVoid])?;
+    bytes(&builder)
 }
 
-/// Behind a `nop` an `invoke-static` of row 4, of a table with four rows.
-pub fn invokes_no_row(alloc: Global) -> Result<Vec<u8>, AllocError> {
-    let main = Method {
-        units: &[0x0000, 0x0071, 4, 0, 0x000e],
-        ..PRINTS_SUM
-    };
-    file(alloc, &TABLES, &[class_a(&[main])])
+/// A file whose `main` has these units.
+fn has_units(alloc: Global, units: &[u16]) -> Result<Bytes, AssemblyFault> {
+    let mut builder = below(alloc, OBJECT)?;
+    let steps = [Step::Units(units)];
+    add(alloc, &mut builder, 0, ("main", OF_TEXTS), &steps)?;
+    bytes(&builder)
+}
+
+/// Behind a `nop` an `invoke-static` of row 1 of the methods, of which there is one.
+pub fn invokes_no_row(alloc: Global) -> Result<Bytes, AssemblyFault> {
+    has_units(alloc, &[0x0000, 0x0071, 1, 0, 0x000e])
 }
 
 /// Behind two instructions an unused opcode.
-pub fn has_unused_opcode(alloc: Global) -> Result<Vec<u8>, AllocError> {
-    let main = Method {
-        units: &[0x3112, 0x4212, 0x003e],
-        ..PRINTS_SUM
-    };
-    file(alloc, &TABLES, &[class_a(&[main])])
+pub fn has_unused_opcode(alloc: Global) -> Result<Bytes, AssemblyFault> {
+    has_units(alloc, &[0x3112, 0x4212, 0x003e])
 }
 
-/// The tables of a file with two classes that have a `main` each.
-const TWO: Tables<'static> = Tables {
-    texts: &[
-        "LA;",
-        "LB;",
-        "Ljava/lang/Object;",
-        "[Ljava/lang/String;",
-        "V",
-        "main",
-    ],
-    types: &[0, 1, 2, 3, 4],
-    protos: &[(4, &[3])],
-    fields: &[],
-    methods: &[(0, 0, 5), (1, 0, 5)],
-};
+/// `add-float v0, v0, v0`.
+const ADD_FLOATS: [u16; 2] = [0x00a6, 0];
+
+/// That program with a method `u()V` that adds floats.
+pub fn adds_floats(alloc: Global) -> Result<Bytes, AssemblyFault> {
+    let mut builder = prints_below(alloc, OBJECT)?;
+    let steps = [Step::Units(&ADD_FLOATS), Step::ReturnVoid];
+    add(alloc, &mut builder, 0, ("u", "()V"), &steps)?;
+    bytes(&builder)
+}
 
 /// Class B and then class A, each with a `main` that returns at once.
-pub fn has_two_mains(alloc: Global) -> Result<Vec<u8>, AllocError> {
-    let of_a = Method {
-        step: 0,
-        ins: 1,
-        units: &[0x000e],
-    };
-    let of_b = Method { step: 1, ..of_a };
-    let a = Class {
-        class: 0,
-        superclass: 2,
-        methods: &[of_a],
-    };
-    let b = Class {
-        class: 1,
-        superclass: 2,
-        methods: &[of_b],
-    };
-    file(alloc, &TWO, &[b, a])
+pub fn has_two_mains(alloc: Global) -> Result<Bytes, AssemblyFault> {
+    let main = ("main", OF_TEXTS);
+    let mut builder = DexBuilder::new(alloc)?;
+    let b = builder.class("LB;", OBJECT, PUBLIC)?;
+    add(alloc, &mut builder, b, main, &[Step::ReturnVoid])?;
+    let a = builder.class("LA;", OBJECT, PUBLIC)?;
+    add(alloc, &mut builder, a, main, &[Step::ReturnVoid])?;
+    bytes(&builder)
 }
 
-/// That program with a method `u()V`: `add-float v0, v0, v0`, `return-void`.
-pub fn adds_floats(alloc: Global) -> Result<Vec<u8>, AllocError> {
-    let adds = Method {
-        step: 4,
-        ins: 0,
-        units: &[0x00a6, 0, 0x000e],
-    };
-    file(alloc, &TABLES_WITH_U, &[class_a(&[PRINTS_SUM, adds])])
-}
-
-/// That program, but that its `main` adds a register that holds nothing: `const/4 v1, 3`, `add-int/2addr v1, v2`, `return-void`.
-pub fn adds_unset(alloc: Global) -> Result<Vec<u8>, AllocError> {
-    let main = Method {
-        units: &[0x3112, 0x21b0, 0x000e],
-        ..PRINTS_SUM
-    };
-    file(alloc, &TABLES, &[class_a(&[main])])
+/// That program, but that its `main` adds a register that holds nothing.
+pub fn adds_unset(alloc: Global) -> Result<Bytes, AssemblyFault> {
+    let mut builder = below(alloc, OBJECT)?;
+    let steps = [
+        Step::Const(1, 3),
+        Step::Op(IntOp::Add, 1, 2),
+        Step::ReturnVoid,
+    ];
+    add(alloc, &mut builder, 0, ("main", OF_TEXTS), &steps)?;
+    bytes(&builder)
 }
