@@ -231,10 +231,16 @@ fn accesses(insn: &Insn, size: Size) -> Option<Form> {
             index,
         } => triple(0x4b + kind_at(*kind), *from, *array, *index),
         Insn::FieldGet {
-            kind, to, object, ..
+            kind,
+            to,
+            object,
+            ..
         } => pair_with_unit(0x52 + kind_at(*kind), *to, *object, 0),
         Insn::FieldPut {
-            kind, from, object, ..
+            kind,
+            from,
+            object,
+            ..
         } => pair_with_unit(0x59 + kind_at(*kind), *from, *object, 0),
         Insn::StaticGet { kind, to, .. } => with_unit(0x60 + kind_at(*kind), *to, 0),
         Insn::StaticPut { kind, from, .. } => with_unit(0x67 + kind_at(*kind), *from, 0),
@@ -291,8 +297,7 @@ fn follows(two: &[u16]) -> bool {
 
 /// Whether registers are one behind the other.
 fn are_in_range(args: &[u16]) -> bool {
-    args.windows(2)
-        .all(|two| follows(two))
+    args.windows(2).all(|two| follows(two))
 }
 
 /// A range of registers.

@@ -18,12 +18,7 @@ pub fn class(alloc: Global, name: &str) -> Result<RowName, AssemblyFault> {
 }
 
 /// A field of a class: its name, and its type's descriptor.
-pub fn field(
-    alloc: Global,
-    class: &str,
-    name: &str,
-    kind: &str,
-) -> Result<RowName, AssemblyFault> {
+pub fn field(alloc: Global, class: &str, name: &str, kind: &str) -> Result<RowName, AssemblyFault> {
     Ok(RowName::Field {
         class: units_of(alloc, class)?,
         name: units_of(alloc, name)?,

@@ -11,7 +11,10 @@ pub fn jumps(insn: &Insn, size: Size) -> Option<Form> {
         Insn::Goto { .. } if size == Size::Wide => Some(Form::Two(0x29, 0)),
         Insn::Goto { .. } => Some(Form::One(0x28)),
         Insn::If {
-            test, left, right, ..
+            test,
+            left,
+            right,
+            ..
         } => pair_with_unit(0x32 + test_at(*test), *left, *right, 0),
         Insn::IfZero { test, value, .. } => with_unit(0x38 + test_at(*test), *value, 0),
         Insn::FillArray { array, .. } => with_units(0x26, *array, 0),

@@ -35,7 +35,7 @@ is_built again content ids classes file named tables members count written =
       classes = classes;
       tables = of_tables;
       members = of_members;
-      again = λ fits. again content ids classes file named of_tables of_members fits (written of_tables.fit (count ∙ as_many (IsClassRow ids) content ids.classes of_tables.classes) fits)
+      again = λ fits. again content ids classes file named of_tables of_members fits (written of_tables.fit (count ∙ as_many (IsClassRow ids) content ids.classes of_tables.classes) fits);
     }
 
 pub finished : WrittenIsReadAgain → (content : List ListedClass) (ids : Ids) (classes : List RawClass) (result : Result (List ℕ) Memory) →

@@ -8,13 +8,13 @@ ghost use Rattle.cc_builder.specs.Added.{units_of, new_class, new_field, new_met
 use crate::text::{named_class, units_of};
 use cc_building_laws::written_is_read_again;
 use cc_file_writer::write_file;
-use cc_raw_classes::raw_classes;
-use cc_tables::tables_of;
 use cc_list::List;
 use cc_meaning::fault::Memory;
 use cc_meaning::listing::{ListedValue, Listing};
 use cc_meaning::lists::Bytes;
 use cc_meaning_building::content::{Content, ListedClass, ListedField, ListedMethod};
+use cc_raw_classes::raw_classes;
+use cc_tables::tables_of;
 use std::alloc::Global;
 use std::marker::Model;
 

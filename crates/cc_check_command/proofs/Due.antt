@@ -18,7 +18,6 @@ use Rattle.cc_check_command.specs.Checks.{Outside, DueBy}
 some_same : {A : Type 0} {a b : A} → Some a ≡ Some b → a ≡ b
 some_same e = cc
 
-
 tells_more : (o : Option Files) (name : List ℕ) (P Q : Option (List ℕ) → Type 0) → ((file : Option (List ℕ)) → P file → Q file) → IfSome o (λ files. P (files name)) → IfSome o (λ files. Q (files name))
 tells_more None name P Q f h = tt
 tells_more (Some files) name P Q f h = f (files name) h

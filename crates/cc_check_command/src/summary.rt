@@ -10,7 +10,12 @@ use cc_plan::Plan;
 use std::alloc::{AllocError, Global};
 
 /// Adds words and a number in decimal.
-fn put_number(alloc: Global, line: &mut Vec<u8>, words: &[u8], number: u64) -> Result<(), AllocError>
+fn put_number(
+    alloc: Global,
+    line: &mut Vec<u8>,
+    words: &[u8],
+    number: u64,
+) -> Result<(), AllocError>
     ensures { OnOk result (line.new.items ≡ line.old.items ++ (words.now ++ decimal number)) }
 {
     let digits = number.to_string(alloc)?;

@@ -115,7 +115,10 @@ fn says_why_nothing_was_checked(rt: HostRuntime) -> Result<(), Fail> {
     let file = print_sum(alloc)?.finish()?;
     let lines = refused("fault 73 Absent b.dex\n");
     expect(&rt, "check b.dex", file.as_slice(), 73, lines)?;
-    let unread = Failing { shelf: &[0], ..CALM };
+    let unread = Failing {
+        shelf: &[0],
+        ..CALM
+    };
     let came = run(alloc, "check a.dex", file.as_slice(), unread)?;
     assert_eq!(rt; came.status, 71);
     assert!(rt; came.notes.bytes() == b"fault 71 ReadFault a.dex\n".as_slice());
@@ -124,7 +127,10 @@ fn says_why_nothing_was_checked(rt: HostRuntime) -> Result<(), Fail> {
     assert_eq!(rt; came.status, 72);
     assert!(rt; came.out.bytes().is_empty());
     assert!(rt; came.notes.bytes() == b"fault 72 WriteFault\n".as_slice());
-    let unsaid = Failing { notes: &[0], ..CALM };
+    let unsaid = Failing {
+        notes: &[0],
+        ..CALM
+    };
     let came = run(alloc, "check b.dex", file.as_slice(), unsaid)?;
     assert_eq!(rt; came.status, 72);
     assert!(rt; came.notes.bytes().is_empty());

@@ -42,11 +42,7 @@ fn shelf_with(alloc: Global, file: &[u8], fails: &[u64]) -> Result<MemoryShelf, 
         name: Text::from_str(alloc, "a.dex")?,
         bytes: Bytes::from_slice(alloc, file)?,
     })?;
-    Ok(MemoryShelf::new(
-        alloc,
-        files,
-        CallList::from_slice(alloc, fails)?,
-    ))
+    Ok(MemoryShelf::new(alloc, files, CallList::from_slice(alloc, fails)?))
 }
 
 /// Runs the program on these words, cut at blanks, over a shelf with one file.

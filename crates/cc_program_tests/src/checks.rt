@@ -42,8 +42,11 @@ fn refuses_an_unset_register(rt: HostRuntime) -> Result<(), Fail> {
 fn refuses_floats_and_other_classes(rt: HostRuntime) -> Result<(), Fail> {
     let alloc = rt.alloc();
     let file = adds_floats(alloc)?;
-    let Err(CheckFault::Program(ProgramFault::Insn { fault, .. })) = check_bytes(alloc, file.as_slice(), None)
-    else {
+    let Err(CheckFault::Program(ProgramFault::Insn { fault, .. })) = check_bytes(
+        alloc,
+        file.as_slice(),
+        None,
+    ) else {
         return Err("read")?;
     };
     assert!(rt; matches!(fault, InsnFault::Float));
