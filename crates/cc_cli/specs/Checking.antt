@@ -1,5 +1,5 @@
 -- The words that call for `check`, and what its call is told of the outside.
-use Rattle.std.specs.Prelude.{◌≡◌, ℕ, Bool, false, List, [], ◌∷◌, codes}
+use Rattle.std.specs.Prelude.{ℕ, Bool, false, List, [], ◌∷◌, codes}
 use Rattle.std.specs.Str.{bytes_eq}
 use Rattle.cc_check_command.specs.Checks as checks
 use Rattle.cc_cli.specs.Runs.{Outside}
