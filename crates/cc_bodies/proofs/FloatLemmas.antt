@@ -10,7 +10,7 @@ use Rattle.cc_meaning.specs.declared.file.FieldRow.{FieldRow}
 use Rattle.cc_meaning.specs.declared.file.Ids.{Ids}
 use Rattle.cc_meaning.specs.declared.file.MethodRow.{MethodRow}
 use Rattle.cc_meaning.specs.declared.file.ProtoRow.{ProtoRow}
-use Rattle.cc_meaning_file.specs.Descriptors.{dims_of}
+use Rattle.cc_meaning_dex.specs.Descriptors.{dims_of}
 use Rattle.cc_meaning_program.specs.Named.{type_name, text_of}
 use Rattle.cc_meaning_program.specs.ClassNames.{base_name}
 use Rattle.cc_meaning_program.specs.References.{IsFloating, FieldFloats, MethodFloats}

@@ -1,3 +1,13 @@
 pub mod Loops
 pub mod FloatLemmas
 pub mod CodeLemmas
+pub mod Gathering
+pub mod CodeLoops
+pub mod Rows
+pub mod Numbers
+pub mod Soundness
+pub mod Among
+pub mod LinkedReferences
+pub mod UsedRows
+pub mod Linkability
+pub mod Resolving

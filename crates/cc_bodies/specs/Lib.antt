@@ -2,3 +2,8 @@ pub mod Reading
 pub mod Judged
 pub mod Floats
 pub mod Bodies
+pub mod Gathering
+pub mod UsedRows
+pub mod Linkable
+pub mod Linked
+pub mod ProgramLinks

@@ -4,15 +4,15 @@ use Rattle.std.specs.Prelude.{IfOk}
 use Rattle.cc_meaning.specs.declared.fault.Memory.{Memory}
 use Rattle.cc_meaning.specs.declared.file.Ids.{Ids}
 use Rattle.cc_meaning.specs.declared.file.RawClass.{RawClass}
-use Rattle.cc_meaning_classes.specs.Classes.{EachPair}
-use Rattle.cc_meaning_building.specs.declared.content.ListedClass.{ListedClass}
-use Rattle.cc_meaning_building.specs.Built.{Built}
-use Rattle.cc_meaning_building.specs.Laws.{WrittenIsReadAgain}
-use Rattle.cc_meaning_building.specs.Members.{AreRawClasses}
-use Rattle.cc_meaning_building.specs.Tables.{AreTables, IsClassRow}
-use Rattle.cc_meaning_building.specs.WellNamed.{WellNamed}
-use Rattle.cc_raw_classes.specs.Known.{HasRows}
-use Rattle.cc_file_writer.specs.Writing.{IsFileOf}
+use Rattle.cc_meaning_dex.specs.Classes.{EachPair}
+use Rattle.cc_meaning_builder.specs.declared.content.ListedClass.{ListedClass}
+use Rattle.cc_meaning_builder.specs.Built.{Built}
+use Rattle.cc_meaning_builder.specs.Laws.{WrittenIsReadAgain}
+use Rattle.cc_meaning_builder.specs.Members.{AreRawClasses}
+use Rattle.cc_meaning_builder.specs.Tables.{AreTables, IsClassRow}
+use Rattle.cc_meaning_builder.specs.WellNamed.{WellNamed}
+use Rattle.cc_builder.specs.Known.{HasRows}
+use Rattle.cc_dex_writer.specs.Writing.{IsFileOf}
 
 -- there are as many of the ones as of the others
 as_many : {A B : Type 0} (holds : A → B → Type 0) (xs : List A) (ys : List B) → EachPair holds xs ys → length xs ≡ length ys

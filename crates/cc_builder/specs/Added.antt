@@ -5,9 +5,9 @@ use Rattle.std.specs.Char.Escape.{encode_utf16}
 use Rattle.std.specs.Str.{chars}
 use Rattle.cc_meaning.specs.declared.listing.ListedValue.{ListedValue}
 use Rattle.cc_meaning.specs.declared.listing.Listing.{Listing}
-use Rattle.cc_meaning_building.specs.declared.content.ListedClass.{ListedClass}
-use Rattle.cc_meaning_building.specs.declared.content.ListedField.{ListedField}
-use Rattle.cc_meaning_building.specs.declared.content.ListedMethod.{ListedMethod}
+use Rattle.cc_meaning_builder.specs.declared.content.ListedClass.{ListedClass}
+use Rattle.cc_meaning_builder.specs.declared.content.ListedField.{ListedField}
+use Rattle.cc_meaning_builder.specs.declared.content.ListedMethod.{ListedMethod}
 
 -- ---- texts
 

@@ -1,19 +1,19 @@
 //! A DEX file in the making.
 
 ghost use Rattle.std.specs.Prelude.{◌≡◌, ◌++◌, [], ◌∷◌, ◌+◌, ◌<◌, length, IfOk, OnOk, OnErr};
-ghost use Rattle.cc_meaning_building.specs.Built.{Built};
-ghost use Rattle.cc_meaning_building.specs.WellNamed.{WellNamed};
+ghost use Rattle.cc_meaning_builder.specs.Built.{Built};
+ghost use Rattle.cc_meaning_builder.specs.WellNamed.{WellNamed};
 ghost use Rattle.cc_builder.specs.Added.{units_of, new_class, new_field, new_method, with_interface, with_field, with_method, changed};
 
+use crate::raw_classes;
 use crate::text::{named_class, units_of};
-use cc_building_laws::written_is_read_again;
-use cc_file_writer::write_file;
+use cc_builder_laws::written_is_read_again;
+use cc_dex_writer::write_file;
 use cc_list::List;
 use cc_meaning::fault::Memory;
 use cc_meaning::listing::{ListedValue, Listing};
 use cc_meaning::lists::Bytes;
-use cc_meaning_building::content::{Content, ListedClass, ListedField, ListedMethod};
-use cc_raw_classes::raw_classes;
+use cc_meaning_builder::content::{Content, ListedClass, ListedField, ListedMethod};
 use cc_tables::tables_of;
 use std::alloc::Global;
 use std::marker::Model;
@@ -29,7 +29,7 @@ pub struct DexBuilder {
 
 impl Model for DexBuilder {
     ghost use Rattle.std.specs.Prelude.{List};
-    ghost use Rattle.cc_meaning_building.specs.declared.content.ListedClass.{ListedClass};
+    ghost use Rattle.cc_meaning_builder.specs.declared.content.ListedClass.{ListedClass};
 
     ghost Value = { List ListedClass };
 
@@ -158,7 +158,8 @@ impl DexBuilder {
     ///
     /// # Errors
     ///
-    /// `Memory`: there is none for the file, or a table would have more than 2 ^ 32 rows.
+    /// `Memory`: there is none for the file, a table would have more than 2 ^ 32 rows, or a mark of one unit names the row 65,536 or one behind it (of these,
+    /// texts can be named by const-string/jumbo).
     pub fn finish(&self) -> Result<Bytes, Memory>
         ensures { IfOk result (λ file. WellNamed self.now → Built self.now file) }
     {

@@ -4,7 +4,7 @@ use cc_builder::DexBuilder;
 use cc_list::List;
 use cc_meaning::listing::{ListedValue, Listing};
 use cc_meaning::lists::Units;
-use cc_meaning_building::content::ListedClass;
+use cc_meaning_builder::content::ListedClass;
 use std::process::Abort;
 use std::test::Fail;
 

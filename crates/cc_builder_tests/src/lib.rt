@@ -1,5 +1,17 @@
-//! Tests of the builder of files. They stand in a crate of their own, since a crate with tests is proved twice.
+//! Tests of the builder of files and of its parts.
 #![tactic(auto)]
 
 #[cfg(test)]
 mod adding;
+#[cfg(test)]
+mod items_of_classes;
+#[cfg(test)]
+mod marks;
+#[cfg(test)]
+mod parts;
+#[cfg(test)]
+mod tables;
+#[cfg(test)]
+mod values;
+#[cfg(test)]
+mod whole;

@@ -1,4 +1,3 @@
-pub mod ByName
 pub mod InOrder
 pub mod Matches
 pub mod Spending

@@ -8,22 +8,8 @@ ghost use Rattle.cc_meaning.specs.Order.{IsRisingByName};
 use crate::texts::ascii;
 use cc_meaning::lists::ClassIx;
 use cc_meaning::program::{Class, Program};
+use cc_program_names::class_named;
 use std::alloc::{AllocError, Global};
-
-fn class_of_name(program: &Program, name: &[u16]) -> Option<ClassIx>
-    requires few { length program.now.classes ≤ 2 ^ 32 }
-    requires rising { IsRisingByName program.now.classes }
-    ensures { result ≡ class_named name.now program.now }
-{
-    match program
-        .classes
-        .as_slice()
-        .binary_search_by(|class| class.name.as_slice().cmp(&name))
-    {
-        Ok(at) => Some(at as u32),
-        Err(_) => None,
-    }
-}
 
 #[tactic(auto, unfolding(cc_meaning::specs::BuiltIn::null_pointer_exception_name))]
 pub(crate) fn null_pointer_exception(
@@ -35,7 +21,7 @@ pub(crate) fn null_pointer_exception(
     ensures { IfOk result (λ class. class ≡ class_named null_pointer_exception_name program.now) }
 {
     let name = ascii(alloc, b"Ljava/lang/NullPointerException;")?;
-    Ok(class_of_name(program, name.as_slice()))
+    Ok(class_named(program, name.as_slice()))
 }
 
 #[tactic(auto, unfolding(cc_meaning::specs::BuiltIn::string_index_out_of_bounds_exception_name))]
@@ -48,7 +34,7 @@ pub(crate) fn string_index_out_of_bounds_exception(
     ensures { IfOk result (λ class. class ≡ class_named string_index_out_of_bounds_exception_name program.now) }
 {
     let name = ascii(alloc, b"Ljava/lang/StringIndexOutOfBoundsException;")?;
-    Ok(class_of_name(program, name.as_slice()))
+    Ok(class_named(program, name.as_slice()))
 }
 
 /// Whether each class's name comes before that of the next one, and so of all later ones. A program's classes stand so.

@@ -8,7 +8,7 @@ use Rattle.cc_meaning.specs.declared.program.Method.{Method}
 use Rattle.cc_meaning.specs.declared.program.Program.{Program}
 use Rattle.cc_meaning.specs.Names.{method_name}
 use Rattle.cc_meaning_typing.specs.Code.{Body}
-use Rattle.cc_meaning_verify.specs.Faults.{IsFaultOf, IsFirstFault}
+use Rattle.cc_meaning_typing.specs.Faults.{IsFaultOf, IsFirstFault}
 use Rattle.cc_check.specs.Checking.{NamesFault, faulty_method}
 use Rattle.cc_check.specs.declared.fault.CheckFault.TheVariants as faults
 

@@ -4,10 +4,10 @@ use Rattle.cc_meaning.specs.declared.fault.VerifyFault.{VerifyFault}
 use Rattle.cc_meaning.specs.declared.program.Method.{Method}
 use Rattle.cc_meaning.specs.declared.program.Program.{Program}
 use Rattle.cc_meaning.specs.Names.{method_name}
-use Rattle.cc_meaning_verify.specs.Faults.{IsFirstFault}
-use Rattle.cc_meaning_verify.specs.Laws.{OneFirstFault, WellTypedHasNoFault}
-use Rattle.cc_program.specs.Reading.{OneSpelledProgram}
-use Rattle.cc_reading_laws.specs.Laws.{OneReadFault, SpelledProgramsHaveNoFault, SpelledProgramsAreHierarchies}
+use Rattle.cc_meaning_typing.specs.Faults.{IsFirstFault}
+use Rattle.cc_meaning_typing.specs.VerifyLaws.{OneFirstFault, WellTypedHasNoFault}
+use Rattle.cc_meaning_program.specs.Reading.{OneSpelledProgram}
+use Rattle.cc_program_laws.specs.ReadingLaws.{OneReadFault, SpelledProgramsHaveNoFault, SpelledProgramsAreHierarchies}
 use Rattle.cc_check.specs.Checking.{IsAccepted, NamesFault, IsRefused, IsChecked, read_fault}
 use Rattle.cc_check.specs.Summaries.{summary_of}
 use Rattle.cc_check.specs.declared.fault.CheckFault.{CheckFault}

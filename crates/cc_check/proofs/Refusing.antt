@@ -3,10 +3,10 @@ use Rattle.std.proofs.Common.{◌≡◌, ◌≢◌, ◌⊎◌, inl, inr, ℕ, Li
 use Rattle.cc_meaning.specs.declared.fault.VerifyFault.{VerifyFault}
 use Rattle.cc_meaning.specs.declared.fault.VerifyFault.TheVariants as verify
 use Rattle.cc_meaning.specs.declared.program.Program.{Program}
-use Rattle.cc_meaning_verify.specs.Faults.{IsFirstFault}
-use Rattle.cc_program.specs.Reading.{IsReadFault}
-use Rattle.cc_program.specs.declared.fault.ReadFault.{ReadFault}
-use Rattle.cc_program.specs.declared.fault.ReadFault.TheVariants as read
+use Rattle.cc_meaning_typing.specs.Faults.{IsFirstFault}
+use Rattle.cc_meaning_program.specs.Reading.{IsReadFault}
+use Rattle.cc_meaning_program.specs.declared.read_fault.ReadFault.{ReadFault}
+use Rattle.cc_meaning_program.specs.declared.read_fault.ReadFault.TheVariants as read
 use Rattle.cc_check.specs.Checking.{IsRefused, read_fault}
 use Rattle.cc_check.specs.declared.fault.CheckFault.{CheckFault}
 use Rattle.cc_check.specs.declared.fault.CheckFault.TheVariants as faults

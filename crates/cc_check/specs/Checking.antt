@@ -5,10 +5,10 @@ use Rattle.cc_meaning.specs.declared.fault.VerifyFault.TheVariants as verify
 use Rattle.cc_meaning.specs.declared.program.Program.{Program}
 use Rattle.cc_meaning.specs.Names.{method_name}
 use Rattle.cc_meaning_typing.specs.WellTyped.{WellTyped}
-use Rattle.cc_meaning_verify.specs.Faults.{FitsWidth, IsFirstFault}
-use Rattle.cc_program.specs.Reading.{SpellsProgram, IsReadFault}
-use Rattle.cc_program.specs.declared.fault.ReadFault.{ReadFault}
-use Rattle.cc_program.specs.declared.fault.ReadFault.TheVariants as read
+use Rattle.cc_meaning_typing.specs.Faults.{FitsWidth, IsFirstFault}
+use Rattle.cc_meaning_program.specs.Reading.{SpellsProgram, IsReadFault}
+use Rattle.cc_meaning_program.specs.declared.read_fault.ReadFault.{ReadFault}
+use Rattle.cc_meaning_program.specs.declared.read_fault.ReadFault.TheVariants as read
 use Rattle.cc_check.specs.Summaries.{summary_of}
 use Rattle.cc_check.specs.declared.fault.CheckFault.{CheckFault}
 use Rattle.cc_check.specs.declared.fault.CheckFault.TheVariants as faults

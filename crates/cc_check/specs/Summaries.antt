@@ -6,8 +6,8 @@ use Rattle.cc_meaning.specs.declared.program.MethodKind.{MethodKind}
 use Rattle.cc_meaning.specs.declared.program.MethodKind.TheVariants as kinds
 use Rattle.cc_meaning.specs.declared.program.Program.{Program}
 use Rattle.cc_meaning_typing.specs.WellTyped as typing
-use Rattle.cc_meaning_resolution.specs.Programs as programs
-use Rattle.cc_meaning_verify.specs.Tries.{units_of}
+use Rattle.cc_meaning_program.specs.Programs as programs
+use Rattle.cc_meaning_typing.specs.Tries.{units_of}
 use Rattle.cc_check.specs.declared.summary.Summary.{Summary}
 
 -- whether the file defines a class

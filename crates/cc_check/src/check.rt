@@ -2,16 +2,16 @@
 
 ghost use Rattle.std.specs.Prelude.{◌≢◌, Ok, Err, IfOk, IfErr};
 ghost use Rattle.std.specs.Option.{option_copied};
-ghost use Rattle.cc_program.specs.Asked.{asked_class};
+ghost use Rattle.cc_meaning_program.specs.Asked.{asked_class};
 ghost use Rattle.cc_check.specs.Checking.{IsChecked, OneChecked};
 ghost use Rattle.cc_check.specs.declared.fault.CheckFault.TheVariants as faults;
 
 use crate::fault::CheckFault;
 use crate::load::load_program;
 use crate::summary::{Summary, summarize};
-use cc_meaning_verify::law_one_first_fault;
+use cc_meaning_typing::law_one_first_fault;
 use cc_program::one_spelled_program;
-use cc_reading_laws::{
+use cc_program_laws::{
     one_read_fault, spelled_programs_are_hierarchies, spelled_programs_have_no_fault,
 };
 use std::alloc::Global;

@@ -2,7 +2,7 @@
 
 use cc_meaning::fault::{DexFault, ProgramFault, VerifyFault};
 use cc_meaning::lists::Units;
-use cc_program::ReadFault;
+use cc_meaning_program::ReadFault;
 use std::alloc::AllocError;
 use std::fmt;
 use thiserror::Error;

@@ -1,11 +1,11 @@
 //! From the bytes of a file to its well typed program.
 
-ghost use Rattle.std.specs.Prelude.{◌≡◌, ◌≢◌, ◌≤◌, ◌<◌, ◌^◌, length, Some, MatchOption, IfOk, IfErr};
+ghost use Rattle.std.specs.Prelude.{◌≡◌, ◌≢◌, Some, MatchOption, IfOk, IfErr};
 ghost use Rattle.std.specs.Option.{option_copied};
 ghost use Rattle.cc_meaning.specs.declared.fault.VerifyFault.TheVariants as verify;
-ghost use Rattle.cc_meaning_typing.specs.WellFormed.{IsWellFormed};
-ghost use Rattle.cc_meaning_verify.specs.Faults.{IsFirstFault};
-ghost use Rattle.cc_program.specs.Asked.{asked_class};
+ghost use Rattle.cc_meaning_typing.specs.Complete.{IsComplete};
+ghost use Rattle.cc_meaning_typing.specs.Faults.{IsFirstFault};
+ghost use Rattle.cc_meaning_program.specs.Asked.{asked_class};
 ghost use Rattle.cc_check.specs.Checking.{IsAccepted, IsRefused, NamesFault, faulty_method};
 ghost use Rattle.cc_check.specs.declared.fault.CheckFault.TheVariants as faults;
 
@@ -13,14 +13,11 @@ use crate::fault::CheckFault;
 use cc_meaning::fault::VerifyFault;
 use cc_meaning::lists::MethodIx;
 use cc_meaning::program::Program;
-use cc_method_names::method_name;
 use cc_program::read_dex;
+use cc_program_names::method_name;
 use cc_types::Verified;
 use cc_verify::verify;
 use std::alloc::Global;
-
-/// The most methods that numbers of 32 bits count. There is no memory for more.
-const MOST: usize = u32::MAX as usize;
 
 /// The number of the method that a fault is of.
 #[tactic(auto, unfolding(crate::specs::Checking::faulty_method))]
@@ -56,20 +53,15 @@ fn named(alloc: Global, program: &Program, fault: VerifyFault) -> CheckFault
 ///
 /// # Errors
 ///
-/// The file's first fault: `Dex` and `Program` as `read_dex` names it, and `Verify` as `verify` names it. At any time `Memory`: there is no memory,
-/// as there is none for more methods than numbers of 32 bits count.
+/// The file's first fault: `Dex` and `Program` as `read_dex` names it, and `Verify` as `verify` names it. At any time `Memory`: there is no memory.
 ///
 /// Source: Dalvik Executable format, section File layout; Dalvik bytecode; Dalvik executable constraints.
 pub fn load_program(alloc: Global, file: &[u8], main: Option<&str>) -> Result<Verified, CheckFault>
     ensures accepted { IfOk result (IsAccepted file.now (asked_class (option_copied main.entry))) }
-    ensures well_formed { IfOk result IsWellFormed }
-    ensures few_methods { IfOk result (λ program. length program.methods ≤ 2 ^ 32) }
+    ensures complete { IfOk result IsComplete }
     ensures refused { IfErr result (λ fault. fault ≢ faults.Memory → IsRefused file.now (asked_class (option_copied main.entry)) fault) }
 {
     let program = read_dex(alloc, file, main)?;
-    if program.methods.len() > MOST {
-        return Err(CheckFault::Memory);
-    }
     match verify(alloc, program) {
         Ok(verified) => Ok(verified),
         Err((program, fault)) => Err(named(alloc, &program, fault)),

@@ -5,6 +5,7 @@ ghost use Rattle.cc_meaning.specs.declared.program.Class.{Class};
 ghost use Rattle.cc_meaning.specs.declared.program.Code.{Code};
 ghost use Rattle.cc_meaning.specs.declared.program.Method.{Method};
 ghost use Rattle.cc_meaning.specs.declared.program.MethodKind.TheVariants as kinds;
+ghost use Rattle.cc_meaning_typing.specs.Complete.{IsComplete};
 ghost use Rattle.cc_meaning_typing.specs.WellFormed.{IsWellFormed, IsLaidOut};
 ghost use Rattle.cc_check.specs.Summaries.{has_code, is_of_file, summary_of, units_of_kind, units_of_methods};
 
@@ -26,7 +27,7 @@ fn is_of_file(class: &Class) -> bool
     matches!(class.kind, ClassKind::File)
 }
 
-#[tactic(auto, unfolding(cc_meaning_resolution::specs::Programs::has_code))]
+#[tactic(auto, unfolding(cc_meaning_program::specs::Programs::has_code))]
 fn has_code(method: &Method) -> bool
     ensures { result ≡ has_code method.now }
 {
@@ -62,8 +63,7 @@ fn units_of_methods(program: &Program) -> u64
 
 /// What a program has. Takes no memory.
 pub fn summarize(program: &Program) -> Summary
-    requires well_formed { IsWellFormed program.now }
-    requires few_methods { length program.now.methods ≤ 2 ^ 32 }
+    requires complete { IsComplete program.now }
     ensures { result ≡ summary_of program.now }
 {
     let classes = program.classes.as_slice();

@@ -3,15 +3,15 @@ use Rattle.std.proofs.Common.{inl, inr, ◌≡◌, ◌⊎◌, ℕ, ◌<◌, ◌�
 use Rattle.std.specs.Prelude.{IfSome, IsSomeAnd}
 use Rattle.cc_outside.specs.Shelves.{Files, Known, Counts}
 use Rattle.cc_link.specs.Links as links
-use Rattle.cc_plan.specs.declared.plan.Plan.{Plan}
+use Rattle.cc_output.specs.declared.plan.Plan.{Plan}
 use Rattle.cc_meaning.specs.declared.report.Report.{Report}
 use Rattle.cc_meaning.specs.declared.travel.Travel.{Travel}
 use Rattle.cc_meaning_plain.specs.declared.plain.Plain.{Plain}
 use Rattle.cc_meaning_plain.specs.Tables.{longest_file}
 use Rattle.cc_meaning_plain.specs.Laws.{PlainOnce}
-use Rattle.cc_faults.specs.declared.fault.Fault.{Fault}
-use Rattle.cc_faults.specs.declared.fault.Fault.TheVariants as faults
-use Rattle.cc_faults.specs.Faults.{status_of, fault_plan}
+use Rattle.cc_output.specs.declared.fault.Fault.{Fault}
+use Rattle.cc_output.specs.declared.fault.Fault.TheVariants as faults
+use Rattle.cc_output.specs.Faults.{status_of, fault_plan}
 use Rattle.cc_cli.specs.Offloading.{LinkTells, Names, longest_text, ReadPlan, failed, absent, too_large, was_read, OffloadedPlan, TextPlan, PartitionPlan, ScriptPlan, FilePlan, OffloadPlan}
 use Rattle.cc_cli.specs.Statuses.{IsDue, DueByNext, DueByPartition, DueByScript, DueByFile, DueByFiles}
 

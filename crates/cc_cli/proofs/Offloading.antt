@@ -4,7 +4,7 @@ use Rattle.std.specs.Prelude.{IfOk, MatchOption}
 use Rattle.std.specs.Bool.{Decides}
 use Rattle.std.specs.declared.alloc.AllocError.{AllocError}
 use Rattle.cc_outside.specs.Shelves as shelf
-use Rattle.cc_plan.specs.declared.plan.Plan.{Plan}
+use Rattle.cc_output.specs.declared.plan.Plan.{Plan}
 use Rattle.cc_meaning_plain.specs.declared.plain.Plain.{Plain}
 use Rattle.cc_meaning_plain.specs.Plain.{IsPlain}
 use Rattle.cc_meaning_clone.specs.Hello.{no_script}

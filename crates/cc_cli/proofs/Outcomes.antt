@@ -8,10 +8,10 @@ use Rattle.cc_meaning.specs.declared.travel.Travel.{Travel}
 use Rattle.cc_outside.specs.Counting.{Rose}
 use Rattle.cc_outside.specs.Telling.{more}
 use Rattle.cc_outside.specs.Shelves.{Counts, NeverFall, IsFile, IsAbsent, IsLonger}
-use Rattle.cc_plan.specs.declared.plan.Plan.{Plan}
-use Rattle.cc_plan.specs.Carrying.{AsPlanned, Ends, Wrote}
-use Rattle.cc_meaning_lines.specs.Lines.{returned_line}
-use Rattle.cc_meaning_lines.specs.Travel.{ended_line, ended_status, travel_line}
+use Rattle.cc_output.specs.declared.plan.Plan.{Plan}
+use Rattle.cc_output.specs.Carrying.{AsPlanned, Ends, Wrote}
+use Rattle.cc_output.specs.Lines.{returned_line}
+use Rattle.cc_output.specs.Travel.{ended_line, ended_status, travel_line}
 use Rattle.cc_meaning_plain.specs.declared.plain.Plain.{Plain}
 use Rattle.cc_meaning_plain.specs.Tables.{longest_file}
 use Rattle.cc_meaning_plain.specs.Plain.{IsPlain}
@@ -19,9 +19,9 @@ use Rattle.cc_meaning_plain.specs.Laws.{PlainOnce}
 use Rattle.cc_meaning_clone.specs.Hello.{no_script}
 use Rattle.cc_partition.specs.Partition.{IsPartition}
 use Rattle.cc_device.specs.Travelling.{FallsOnlySo}
-use Rattle.cc_faults.specs.declared.fault.Fault.{Fault}
-use Rattle.cc_faults.specs.declared.fault.Fault.TheVariants as faults
-use Rattle.cc_faults.specs.Faults.{status_of, fault_plan}
+use Rattle.cc_output.specs.declared.fault.Fault.{Fault}
+use Rattle.cc_output.specs.declared.fault.Fault.TheVariants as faults
+use Rattle.cc_output.specs.Faults.{status_of, fault_plan}
 use Rattle.cc_cli.specs.Plans.{Returns}
 use Rattle.cc_cli.specs.Offloading.{LinkTells, Names, longest_text, ReadPlan, failed, absent, too_large, was_read, OffloadedPlan, Offloaded, TextPlan, PartitionPlan, ScriptPlan, FilePlan, OffloadPlan}
 use Rattle.cc_cli.specs.Runs.{Outside}

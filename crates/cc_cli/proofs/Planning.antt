@@ -2,7 +2,7 @@
 use Rattle.std.proofs.Common.{inr, ◌≡◌, ℕ, ◌≤◌, List, length, Result, Ok, Err, Some, sym, ap, ◌∙◌, subst, IfOk}
 use Rattle.std.specs.declared.alloc.AllocError.{AllocError}
 use Rattle.cc_outside.specs.Shelves.{Known, Counts, IsFile}
-use Rattle.cc_plan.specs.declared.plan.Plan.{Plan}
+use Rattle.cc_output.specs.declared.plan.Plan.{Plan}
 use Rattle.cc_meaning.specs.declared.report.Report.{Report}
 use Rattle.cc_meaning_plain.specs.declared.plain.Plain.{Plain}
 use Rattle.cc_meaning_plain.specs.Tables.{longest_file}

@@ -9,8 +9,8 @@ use Rattle.cc_meaning.specs.declared.report.Report.{Report}
 use Rattle.cc_meaning.specs.declared.report.Ending.TheVariants as ending
 use Rattle.cc_meaning.specs.declared.travel.Travel.{Travel}
 use Rattle.cc_link.specs.Links as link
-use Rattle.cc_plan.specs.declared.plan.Plan.{Plan}
-use Rattle.cc_meaning_lines.specs.Travel.{ended_line}
+use Rattle.cc_output.specs.declared.plan.Plan.{Plan}
+use Rattle.cc_output.specs.Travel.{ended_line}
 use Rattle.cc_meaning_nodes.specs.Frames.{frames_of}
 use Rattle.cc_meaning_plain.specs.declared.plain.Plain.{Plain}
 use Rattle.cc_meaning_plain.specs.Plain.{IsPlain}

@@ -7,18 +7,18 @@ use Rattle.cc_outside.specs.Counting.{Rose}
 use Rattle.cc_outside.specs.Telling.{more}
 use Rattle.cc_outside.specs.Shelves.{Files, Tells, IsFile, IsAbsent, IsLonger}
 use Rattle.cc_outside.specs.Sinks.{Pipe}
-use Rattle.cc_plan.specs.declared.plan.Plan.{Plan}
-use Rattle.cc_plan.specs.Carrying.{AsPlanned, Ends, Wrote}
+use Rattle.cc_output.specs.declared.plan.Plan.{Plan}
+use Rattle.cc_output.specs.Carrying.{AsPlanned, Ends, Wrote}
 use Rattle.cc_meaning.specs.declared.travel.Travel.{Travel}
-use Rattle.cc_meaning_lines.specs.Lines.{returned_line}
-use Rattle.cc_meaning_lines.specs.Travel.{ended_status}
+use Rattle.cc_output.specs.Lines.{returned_line}
+use Rattle.cc_output.specs.Travel.{ended_status}
 use Rattle.cc_meaning_plain.specs.declared.plain.Plain.{Plain}
 use Rattle.cc_meaning_plain.specs.Tables.{longest_file}
 use Rattle.cc_meaning_plain.specs.Plain.{IsPlain}
 use Rattle.cc_meaning_plain.specs.Laws.{PlainOnce}
-use Rattle.cc_faults.specs.declared.fault.Fault.{Fault}
-use Rattle.cc_faults.specs.declared.fault.Fault.TheVariants as faults
-use Rattle.cc_faults.specs.Faults.{status_of, fault_plan}
+use Rattle.cc_output.specs.declared.fault.Fault.{Fault}
+use Rattle.cc_output.specs.declared.fault.Fault.TheVariants as faults
+use Rattle.cc_output.specs.Faults.{status_of, fault_plan}
 use Rattle.cc_cli.specs.Plans.{file_named, IsNotPlain, Returns, ran_plan, RunPlan, failed, absent, too_large, was_read}
 use Rattle.cc_cli.specs.Offloading.{LinkTells, Names, offload_named, OffloadedPlan}
 use Rattle.cc_cli.specs.Runs.{Outside, sources, CallPlan, WordsPlan, Runs}
@@ -441,12 +441,12 @@ module _ (plan : Plan) (old new : Outside) (s : ℕ) where
       others = others_by (words_kind words w) c;
     }
 
-pub statuses : PlainOnce → (words : List (List ℕ)) (old new : Outside) (s : ℕ) (tells : LinkTells) → Runs words old s new tells → Statuses words old s new tells
-statuses once words old new s tells runs = all_statuses runs.0 old new s tells once words runs.1 runs.2
+pub statuses : PlainOnce → (words : List (List ℕ)) (old new : Outside) (s : ℕ) (tells : LinkTells) (uncalled : Type 0) → Runs words old s new tells uncalled → Statuses words old s new tells
+statuses once words old new s tells uncalled (plan, words_plan, ends, alone) = all_statuses plan old new s tells once words words_plan ends
 
 -- there is no memory even for a plan, and nothing is done
-pub no_plan : (words : List (List ℕ)) (old new : Outside) (tells : LinkTells) → new.out ≡ old.out → new.notes ≡ old.notes → Runs words old 70 new tells
-no_plan words old new tells o n = (fault_plan faults.Memory [], inr refl, inr (inl (record { status = refl; out = ap (λ (p : Pipe). p.text) o; notes = ap (λ (p : Pipe). p.text) n })))
+pub no_plan : (words : List (List ℕ)) (old new : Outside) (tells : LinkTells) (uncalled : Type 0) → new.out ≡ old.out → new.notes ≡ old.notes → uncalled → Runs words old 70 new tells uncalled
+no_plan words old new tells uncalled o n alone = (fault_plan faults.Memory [], inr refl, inr (inl (record { status = refl; out = ap (λ (p : Pipe). p.text) o; notes = ap (λ (p : Pipe). p.text) n })), λ e. alone)
 
-pub transparent : PlainOnce → (words : List (List ℕ)) (old new : Outside) (s : ℕ) (tells : LinkTells) → Runs words old s new tells → (names : Names) → offload_named words ≡ Some names → tells.trusted → Transparent names old s new tells.prompt
-transparent once words old new s tells runs names e h = is_transparent names old new s tells ((statuses once words old new s tells runs).offload names e) h
+pub transparent : PlainOnce → (words : List (List ℕ)) (old new : Outside) (s : ℕ) (tells : LinkTells) (uncalled : Type 0) → Runs words old s new tells uncalled → (names : Names) → offload_named words ≡ Some names → tells.trusted → Transparent names old s new tells.prompt
+transparent once words old new s tells uncalled runs names e h = is_transparent names old new s tells ((statuses once words old new s tells uncalled runs).offload names e) h

@@ -12,8 +12,8 @@ use Rattle.cc_outside.specs.declared.shelf.ReadEnd.TheVariants as reads
 use Rattle.cc_link.specs.Links as link
 use Rattle.cc_link.specs.Links.{Answer}
 use Rattle.cc_link.specs.Honest.{told}
-use Rattle.cc_plan.specs.declared.plan.Plan.{Plan}
-use Rattle.cc_meaning_lines.specs.Travel.{ended_line, ended_status, travel_line}
+use Rattle.cc_output.specs.declared.plan.Plan.{Plan}
+use Rattle.cc_output.specs.Travel.{ended_line, ended_status, travel_line}
 use Rattle.cc_meaning_plain.specs.declared.plain.Plain.{Plain}
 use Rattle.cc_meaning_plain.specs.Tables.{longest_file}
 use Rattle.cc_meaning_plain.specs.Plain.{IsPlain}
@@ -22,8 +22,8 @@ use Rattle.cc_meaning_clone.specs.Hello.{no_script}
 use Rattle.cc_meaning_device.specs.Complete.{moved_calls}
 use Rattle.cc_partition.specs.Partition.{IsPartition}
 use Rattle.cc_device.specs.Travelling.{moves_of, Offloads, FallsOnlySo, LastEnds}
-use Rattle.cc_faults.specs.declared.fault.Fault.TheVariants as faults
-use Rattle.cc_faults.specs.Faults.{fault_plan}
+use Rattle.cc_output.specs.declared.fault.Fault.TheVariants as faults
+use Rattle.cc_output.specs.Faults.{fault_plan}
 use Rattle.cc_cli.specs.Plans.{IsNotPlain, Returns}
 
 -- ---- the link

@@ -5,16 +5,16 @@ use Rattle.cc_meaning.specs.declared.report.Ending.TheVariants as ending
 use Rattle.cc_meaning.specs.declared.report.Report.{Report}
 use Rattle.cc_outside.specs.Counting.{Rose}
 use Rattle.cc_outside.specs.Shelves.{Known, Counts, IsFile, IsAbsent, IsLonger}
-use Rattle.cc_plan.specs.declared.plan.Plan.{Plan}
-use Rattle.cc_meaning_lines.specs.Lines.{returned_line}
+use Rattle.cc_output.specs.declared.plan.Plan.{Plan}
+use Rattle.cc_output.specs.Lines.{returned_line}
 use Rattle.cc_meaning_run.specs.Local.{local}
 use Rattle.cc_meaning_plain.specs.declared.plain.Plain.{Plain}
 use Rattle.cc_meaning_plain.specs.Tables.{longest_file}
 use Rattle.cc_meaning_plain.specs.Plain.{IsPlain}
 use Rattle.cc_meaning_plain.specs.Program.{setting_of}
 use Rattle.cc_meaning_plain.specs.Laws.{default_limits}
-use Rattle.cc_faults.specs.declared.fault.Fault.TheVariants as faults
-use Rattle.cc_faults.specs.Faults.{fault_plan}
+use Rattle.cc_output.specs.declared.fault.Fault.TheVariants as faults
+use Rattle.cc_output.specs.Faults.{fault_plan}
 
 -- the file in the words `run FILE`, which are just these two
 abbrev pub file_named : List (List ℕ) → Option (List ℕ)

@@ -3,10 +3,10 @@ use Rattle.std.specs.Prelude.{◌≡◌, ◌⊎◌, ℕ, List, [], Option, Some,
 use Rattle.cc_outside.specs.Shelves as shelf
 use Rattle.cc_outside.specs.Sinks.{Pipe}
 use Rattle.cc_link.specs.Links as links
-use Rattle.cc_plan.specs.declared.plan.Plan.{Plan}
-use Rattle.cc_plan.specs.Carrying.{Ends}
-use Rattle.cc_faults.specs.declared.fault.Fault.TheVariants as faults
-use Rattle.cc_faults.specs.Faults.{fault_plan}
+use Rattle.cc_output.specs.declared.plan.Plan.{Plan}
+use Rattle.cc_output.specs.Carrying.{Ends}
+use Rattle.cc_output.specs.declared.fault.Fault.TheVariants as faults
+use Rattle.cc_output.specs.Faults.{fault_plan}
 use Rattle.cc_cli.specs.Plans.{file_named, RunPlan}
 use Rattle.cc_cli.specs.Offloading.{LinkTells, Names, offload_named, OffloadPlan}
 
@@ -41,7 +41,7 @@ abbrev pub WordsPlan : List (List ℕ) → Sources → Sources → (tells : Link
 WordsPlan words old new tells plan =
     CallPlan (file_named words) (offload_named words) old new tells plan ⊎ (plan ≡ fault_plan faults.Memory [])
 
--- the words come to a plan, and it is carried out
-abbrev pub Runs : List (List ℕ) → Outside → ℕ → Outside → (tells : LinkTells) → Type 0
-Runs words old status new tells =
-    (plan : Plan) × WordsPlan words (sources old) (sources new) tells plan × Ends plan old.out old.notes status new.out new.notes
+-- the words come to a plan, and it is carried out; where it has no text for out, no call is made there
+abbrev pub Runs : List (List ℕ) → Outside → ℕ → Outside → (tells : LinkTells) → (uncalled : Type 0) → Type 0
+Runs words old status new tells uncalled =
+    (plan : Plan) × WordsPlan words (sources old) (sources new) tells plan × Ends plan old.out old.notes status new.out new.notes × (plan.out ≡ [] → uncalled)

@@ -4,10 +4,10 @@ use Rattle.cc_meaning.specs.declared.report.Report.{Report}
 use Rattle.cc_meaning.specs.declared.report.Ending.TheVariants as ending
 use Rattle.cc_outside.specs.Counting.{Rose}
 use Rattle.cc_outside.specs.Shelves.{Files, Known, Tells, IsFile, IsAbsent, IsLonger}
-use Rattle.cc_plan.specs.Carrying.{Wrote}
+use Rattle.cc_output.specs.Carrying.{Wrote}
 use Rattle.cc_meaning.specs.declared.travel.Travel.{Travel}
-use Rattle.cc_meaning_lines.specs.Lines.{returned_line}
-use Rattle.cc_meaning_lines.specs.Travel.{ended_line, ended_status, travel_line}
+use Rattle.cc_output.specs.Lines.{returned_line}
+use Rattle.cc_output.specs.Travel.{ended_line, ended_status, travel_line}
 use Rattle.cc_meaning_clone.specs.Hello.{no_script}
 use Rattle.cc_meaning_device.specs.Complete.{moved_calls}
 use Rattle.cc_partition.specs.Partition.{IsPartition}
@@ -15,9 +15,9 @@ use Rattle.cc_device.specs.Travelling.{moves_of, Offloads, FallsOnlySo, LastEnds
 use Rattle.cc_meaning_plain.specs.declared.plain.Plain.{Plain}
 use Rattle.cc_meaning_plain.specs.Tables.{longest_file}
 use Rattle.cc_meaning_plain.specs.Plain.{IsPlain}
-use Rattle.cc_faults.specs.declared.fault.Fault.{Fault}
-use Rattle.cc_faults.specs.declared.fault.Fault.TheVariants as faults
-use Rattle.cc_faults.specs.Faults.{status_of, line_of}
+use Rattle.cc_output.specs.declared.fault.Fault.{Fault}
+use Rattle.cc_output.specs.declared.fault.Fault.TheVariants as faults
+use Rattle.cc_output.specs.Faults.{status_of, line_of}
 use Rattle.cc_cli.specs.Plans.{file_named, IsNotPlain, Returns}
 use Rattle.cc_cli.specs.Offloading.{LinkTells, Names, offload_named, longest_text, job_of, MovesNoneOf}
 use Rattle.cc_cli.specs.Runs.{Outside}

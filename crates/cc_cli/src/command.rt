@@ -10,15 +10,14 @@ ghost use Rattle.cc_cli.specs.Offloading.{tells_of, offload_named};
 ghost use Rattle.cc_cli.specs.Runs.{Sources, CallPlan, WordsPlan};
 
 use crate::offload::{offload_files, offload_named};
-use cc_faults::Fault;
 use cc_link::Link;
 use cc_machine::run;
 use cc_meaning::lists::Bytes;
 use cc_meaning::report::Limits;
 use cc_meaning_plain::{Plain, law_plain_reports, law_plain_returns};
+use cc_output::{Fault, Plan};
 use cc_outside::{ReadEnd, Shelf};
 use cc_plain::read_plain;
-use cc_plan::Plan;
 use std::alloc::{AllocError, Global};
 
 /// The longest file that is read, in bytes.

@@ -3,7 +3,7 @@
 ghost use Rattle.std.specs.Prelude.{◌≡◌, ◌≢◌, ◌⊎◌, ◌↔◌, ℕ, ◌≤◌, ◌<◌, [], Option, IfOk, MatchOption, IsSome, length, string_bytes, map};
 ghost use Rattle.cc_outside.specs.Shelves.{NeverFall};
 ghost use Rattle.cc_link.specs.Links as links;
-ghost use Rattle.cc_meaning_lines.specs.Travel.{ended_line};
+ghost use Rattle.cc_output.specs.Travel.{ended_line};
 ghost use Rattle.cc_meaning_plain.specs.Laws.{AreBytes};
 ghost use Rattle.cc_meaning_plain.specs.Plain.{IsPlain};
 ghost use Rattle.cc_meaning_clone.specs.Hello.{no_script};
@@ -13,8 +13,6 @@ ghost use Rattle.cc_cli.specs.Offloading.{tells_of, all_names, offload_named, lo
 
 use crate::command::{DEFAULT_LIMITS, LONGEST_FILE};
 use cc_device::offload;
-use cc_faults::Fault;
-use cc_lines::{ended_line, ended_status, put_travel_line};
 use cc_link::Link;
 use cc_meaning::fault::Memory;
 use cc_meaning::file::Job;
@@ -24,10 +22,10 @@ use cc_meaning::text::Text;
 use cc_meaning::travel::Travel;
 use cc_meaning_ends::law_plain_ends;
 use cc_meaning_plain::{Plain, law_plain_returns};
+use cc_output::{Fault, Plan, ended_line, ended_status, put_travel_line};
 use cc_outside::{ReadEnd, Shelf};
 use cc_partition::{PartitionEnd, read_partition};
 use cc_plain::read_plain;
-use cc_plan::Plan;
 use std::alloc::{AllocError, Global};
 
 /// The longest script and partition that are read, in bytes.

@@ -10,11 +10,11 @@ ghost use Rattle.cc_cli.specs.Runs.{Outside, Runs};
 ghost use Rattle.cc_cli.specs.Statuses.{Statuses, Transparent};
 
 use crate::command::plan;
-use cc_check_command::check_words;
+use cc_command_check::check_words;
 use cc_link::Link;
 use cc_meaning_plain::law_plain_once;
+use cc_output::carry_out;
 use cc_outside::{Shelf, Sink};
-use cc_plan::carry_out;
 use std::alloc::Global;
 
 /// Whether the words call for `check`.
@@ -38,7 +38,7 @@ fn other_words<S: Shelf, O: Sink, N: Sink, L: Link>(
 ) -> u8
     ensures runs { let before : Outside = record { known = S.known shelf.old; counts = S.counts shelf.old; link = L.known link.old; calls = L.counts link.old; out = O.pipe out.old; notes = N.pipe notes.old } in
         let after : Outside = record { known = S.known shelf.new; counts = S.counts shelf.new; link = L.known link.new; calls = L.counts link.new; out = O.pipe out.new; notes = N.pipe notes.new } in
-        Runs (map string_bytes words.now) before result after (tells_of L.known L.honest L.prompt L.going L.last link.old link.new) }
+        Runs (map string_bytes words.now) before result after (tells_of L.known L.honest L.prompt L.going L.last link.old link.new) (out.new ≡ out.old) }
     ensures statuses { let before : Outside = record { known = S.known shelf.old; counts = S.counts shelf.old; link = L.known link.old; calls = L.counts link.old; out = O.pipe out.old; notes = N.pipe notes.old } in
         let after : Outside = record { known = S.known shelf.new; counts = S.counts shelf.new; link = L.known link.new; calls = L.counts link.new; out = O.pipe out.new; notes = N.pipe notes.new } in
         Statuses (map string_bytes words.now) before result after (tells_of L.known L.honest L.prompt L.going L.last link.old link.new) }
@@ -74,7 +74,7 @@ fn other_words<S: Shelf, O: Sink, N: Sink, L: Link>(
 /// `check FILE [--main CLASS]` reads a file, verifies its program, and says on `out` how many classes, methods with code and units it has, or on `notes`
 /// why it is refused. `check --help` and `check --version` give their texts on `out`.
 ///
-/// The statuses of `check` are those of `cc_check_command`. The others are 0; 2 where an offloaded run stopped; 64 where the words are no command;
+/// The statuses of `check` are those of `cc_command_check`. The others are 0; 2 where an offloaded run stopped; 64 where the words are no command;
 /// 70 where there is no memory; 71 where the file could not be read; 72 where a sink failed; 73 where there is no such file; 74 where it is
 /// longer than 8,388,608 bytes, or a script or partition than 16,777,216; 80 where the file isn't plain, or the script or the partition is of another form. Room for all that is written is made on both sinks before the first write.
 pub fn run_words<S: Shelf, O: Sink, N: Sink, L: Link>(
@@ -88,10 +88,10 @@ pub fn run_words<S: Shelf, O: Sink, N: Sink, L: Link>(
     // `check` has clauses of its own.
     ensures check { let before : Outside = record { known = S.known shelf.old; counts = S.counts shelf.old; link = L.known link.old; calls = L.counts link.old; out = O.pipe out.old; notes = N.pipe notes.old } in
         let after : Outside = record { known = S.known shelf.new; counts = S.counts shelf.new; link = L.known link.new; calls = L.counts link.new; out = O.pipe out.new; notes = N.pipe notes.new } in
-        is_check (map string_bytes words.now) ≡ true → ChecksAlone (map string_bytes words.now) before result after (link.new ≡ link.old) }
+        is_check (map string_bytes words.now) ≡ true → ChecksAlone (map string_bytes words.now) before result after (out.new ≡ out.old) (link.new ≡ link.old) }
     ensures runs { let before : Outside = record { known = S.known shelf.old; counts = S.counts shelf.old; link = L.known link.old; calls = L.counts link.old; out = O.pipe out.old; notes = N.pipe notes.old } in
         let after : Outside = record { known = S.known shelf.new; counts = S.counts shelf.new; link = L.known link.new; calls = L.counts link.new; out = O.pipe out.new; notes = N.pipe notes.new } in
-        is_check (map string_bytes words.now) ≡ false → Runs (map string_bytes words.now) before result after (tells_of L.known L.honest L.prompt L.going L.last link.old link.new) }
+        is_check (map string_bytes words.now) ≡ false → Runs (map string_bytes words.now) before result after (tells_of L.known L.honest L.prompt L.going L.last link.old link.new) (out.new ≡ out.old) }
     ensures statuses { let before : Outside = record { known = S.known shelf.old; counts = S.counts shelf.old; link = L.known link.old; calls = L.counts link.old; out = O.pipe out.old; notes = N.pipe notes.old } in
         let after : Outside = record { known = S.known shelf.new; counts = S.counts shelf.new; link = L.known link.new; calls = L.counts link.new; out = O.pipe out.new; notes = N.pipe notes.new } in
         is_check (map string_bytes words.now) ≡ false → Statuses (map string_bytes words.now) before result after (tells_of L.known L.honest L.prompt L.going L.last link.old link.new) }

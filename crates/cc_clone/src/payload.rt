@@ -3,10 +3,9 @@
 ghost use Rattle.std.specs.Prelude.{◌≡◌, List, ℕ, MatchOption};
 ghost use Rattle.cc_meaning_clone.specs.Hello.{BeginsWith, SpellsHello, IsHello};
 
+use cc_meaning::frame::VERSION;
 use cc_meaning_clone::hello_laws;
 use std::str;
-
-const VERSION: u8 = 1;
 
 /// The name of the main class, the file and the script.
 #[derive(Clone, Copy)]

@@ -9,21 +9,9 @@ use crate::hello::judge;
 use crate::job::Job;
 use crate::run::{RunEnd, serve_run};
 use cc_meaning::fault::Memory;
-use cc_meaning::frame::Frame;
+use cc_meaning::frame::{BACK, Frame, HELLO, READY, REFUSE, RUN, VERSION};
 use cc_meaning::travel::CloneEnd;
 use std::alloc::{AllocError, Global};
-
-const HELLO: u8 = 1;
-
-const READY: u8 = 2;
-
-const RUN: u8 = 3;
-
-const BACK: u8 = 4;
-
-const REFUSE: u8 = 5;
-
-const VERSION: u8 = 1;
 
 /// The status of a Run whose image is false.
 const BAD_IMAGE: u8 = 77;

@@ -1,7 +1,19 @@
-//! Tests of the code of a file's methods. They stand in a crate of their own, since a crate with tests is proved twice.
+//! Tests of instructions, their arithmetic, and of bodies.
 #![tactic(auto)]
 
 #[cfg(test)]
+mod arithmetic;
+#[cfg(test)]
+mod bodies_sample;
+#[cfg(test)]
+mod decoding;
+#[cfg(test)]
 mod linking;
+#[cfg(test)]
+mod opcodes;
+#[cfg(test)]
+mod reading;
+#[cfg(test)]
+mod shown;
 #[cfg(test)]
 mod uses;

@@ -1,16 +1,16 @@
 //! That rows of code link to numbers, with what they are by hand.
 
 ghost use Rattle.std.specs.Prelude.{◌≡◌, [], ◌∷◌, IfOk};
-ghost use Rattle.cc_code.specs.Linkable.{HasLink, InsnHasLink, CatchHasLink};
+ghost use Rattle.cc_bodies.specs.Linkable.{HasLink, InsnHasLink, CatchHasLink};
 ghost use Rattle.cc_meaning_program.specs.declared.reference.Reference.TheVariants as reference;
 
-use cc_code::link_code;
+use cc_bodies::link_code;
 use cc_list::List;
 use cc_meaning::fault::Memory;
 use cc_meaning::file::{RawCatch, RawCode, RawTry};
 use cc_meaning::instruction::{How, Insn, MethodRef};
 use cc_meaning::program::{Base, Catch, Code, DexType, Placed};
-use cc_meaning_linking::{Links, MethodLink};
+use cc_meaning_program::{Links, MethodLink};
 use std::alloc::{AllocError, Global};
 use std::test::Fail;
 

@@ -1,7 +1,6 @@
 //! That instructions name members in the file's order.
 
-use cc_bodies::Bodies;
-use cc_code::member_uses;
+use cc_bodies::{Bodies, member_uses};
 use cc_list::List;
 use cc_meaning::instruction::{How, Insn, Kind, MethodRef};
 use cc_meaning::program::{Insns, Placed};

@@ -15,7 +15,7 @@ use cc_framing::frame;
 use cc_link::{Dialed, Link};
 use cc_meaning::fault::{ImageFault, Memory};
 use cc_meaning::file::Job;
-use cc_meaning::frame::Frame;
+use cc_meaning::frame::{BACK, Frame, READY, REFUSE, RUN, VERSION};
 use cc_meaning::image::{BackImage, RunImage};
 use cc_meaning::lists::Bytes;
 use cc_meaning::travel::LinkEnd;
@@ -23,17 +23,6 @@ use cc_meaning_nodes::frame_laws;
 use cc_meaning_plain::Plain;
 use cc_wire::{decode_back, encode_run};
 use std::alloc::Global;
-
-/// The version that both ends speak.
-const VERSION: u8 = 1;
-
-const READY: u8 = 2;
-
-const RUN: u8 = 3;
-
-const BACK: u8 = 4;
-
-const REFUSE: u8 = 5;
 
 /// How a device stands with its clone: whether the Ready came, how many Backs were merged, and why no more methods migrate, where that came to be.
 #[derive(Clone, Copy)]

@@ -7,14 +7,10 @@ ghost use Rattle.cc_device.specs.Travelling.{main_of, hello_payload, hello_bytes
 use cc_framing::frame;
 use cc_meaning::fault::Memory;
 use cc_meaning::file::Job;
+use cc_meaning::frame::{HELLO, VERSION};
 use cc_meaning::lists::Bytes;
 use cc_meaning::text::Text;
 use std::alloc::{AllocError, Global};
-
-/// The version that both ends speak.
-const VERSION: u8 = 1;
-
-const HELLO: u8 = 1;
 
 /// The name of the main class, empty where none is named.
 fn main_name(main: &Option<Text>) -> &[u8]

@@ -2,10 +2,10 @@
 use Rattle.std.proofs.Common.{◌≡◌, ℕ, zero, suc, ◌+◌, ◌*◌, ◌-◌, ◌<◌, ◌≤◌, ◌^◌, List, length, get_or, take, drop, refl, ap, ◌∙◌, arith, lit≤, pos, ◌-ℤ◌, Bool, true, false, cond, nat_lt}
 use Rattle.std.proofs.lemmas.Bool.Decides.{nat_tests}
 use Rattle.std.proofs.lemmas.Int.{ints}
-use Rattle.cc_meaning_file.specs.Leb128.{FitsI32}
+use Rattle.cc_meaning_dex.specs.Leb128.{FitsI32}
 use Rattle.std.proofs.lemmas.List.{get_or-drop, take_all, length-drop}
 use Rattle.byteorder.specs.Endian.{little_from, little_number}
-use Rattle.cc_meaning_classes.specs.Values.{little_at, sign_extended}
+use Rattle.cc_meaning_dex.specs.Values.{little_at, sign_extended}
 
 pub little_same : (file : List ℕ) (at i n : ℕ) → little_from i n (drop at file) ≡ little_at file (at + i) n
 unfolding little_at

@@ -1,8 +1,8 @@
 -- A file spells fewer than 2 ^ 32 class definitions.
 use Rattle.std.proofs.Common.{ℕ, ◌+◌, ◌<◌, ◌^◌, List, length, get_or, arith}
 use Rattle.cc_meaning.specs.declared.file.Ids.{Ids}
-use Rattle.cc_meaning_file.specs.Numbers.{u16_at, u32_at}
-use Rattle.cc_meaning_file.specs.Ids.{SpellsIds}
+use Rattle.cc_meaning_dex.specs.Numbers.{u16_at, u32_at}
+use Rattle.cc_meaning_dex.specs.Ids.{SpellsIds}
 
 word_below : (file : List ℕ) (at : ℕ) → ((i : ℕ) → get_or file i 0 < 256) → u32_at file at < 2 ^ 32
 unfolding u16_at u32_at

@@ -1,8 +1,8 @@
 -- Items that are read one after the other, as a loop does.
 use Rattle.std.proofs.Common.{◌≡◌, ℕ, suc, ◌-◌, ◌+◌, ◌≤◌, ◌<◌, List, [], ◌∷◌, ◌++◌, Option, Some, None, Err, refl, sym, ap, ◌∙◌, append_assoc, arith}
 use Rattle.std.proofs.lemmas.List.{append-nil}
-use Rattle.cc_meaning_classes.specs.declared.items.Cursor.{Cursor}
-use Rattle.cc_meaning_classes.specs.Sequences.{◌>>=◌, items_from}
+use Rattle.cc_meaning_dex.specs.declared.items.Cursor.{Cursor}
+use Rattle.cc_meaning_dex.specs.Sequences.{◌>>=◌, items_from}
 use Rattle.cc_dexcode.specs.declared.flaw.Flaw.{Flaw}
 use Rattle.cc_dexcode.specs.declared.flaw.Flaw.TheVariants.{Malformed, Memory}
 use Rattle.cc_dexcode.specs.Finding.{Finds}

@@ -8,11 +8,11 @@ use Rattle.cc_meaning.specs.declared.file.Ids.{Ids}
 use Rattle.cc_meaning.specs.declared.file.ClassRow.{ClassRow}
 use Rattle.cc_meaning.specs.declared.file.RawClass.{RawClass}
 use Rattle.cc_meaning.specs.declared.file.RawMethod.{RawMethod}
-use Rattle.cc_meaning_file.specs.Numbers.{Within}
-use Rattle.cc_meaning_classes.specs.declared.items.StatedMethod.{StatedMethod}
-use Rattle.cc_meaning_classes.specs.CodeItems.{has_no_code, argument_registers, argument_count, register_count, handlers_at, is_number, code_fits, has_sound_code}
-use Rattle.cc_meaning_classes.specs.Tries.{method_of}
-use Rattle.cc_meaning_classes.specs.Classes.{◌>>=◌, or_fault, code_fault, methods_with_code, class_of, classes_from}
+use Rattle.cc_meaning_dex.specs.Numbers.{Within}
+use Rattle.cc_meaning_dex.specs.declared.items.StatedMethod.{StatedMethod}
+use Rattle.cc_meaning_dex.specs.CodeItems.{has_no_code, argument_registers, argument_count, register_count, handlers_at, is_number, code_fits, has_sound_code}
+use Rattle.cc_meaning_dex.specs.Tries.{method_of}
+use Rattle.cc_meaning_dex.specs.Classes.{◌>>=◌, or_fault, code_fault, methods_with_code, class_of, classes_from}
 use Rattle.cc_dexcode.specs.Finding.{Answers}
 use Rattle.cc_dexcode.proofs.Places.{head_first}
 

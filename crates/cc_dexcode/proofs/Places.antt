@@ -1,7 +1,7 @@
 -- Where the parts of a code item stand.
 use Rattle.std.proofs.Common.{◌≡◌, ℕ, ◌+◌, ◌<◌, ◌≤◌, false, nat_le, List, length, arith}
 use Rattle.std.proofs.lemmas.Bool.Decides.{nat_tests}
-use Rattle.cc_meaning_classes.specs.CodeItems.{tries_at, handlers_at}
+use Rattle.cc_meaning_dex.specs.CodeItems.{tries_at, handlers_at}
 
 pub head_first : (file : List ℕ) (at : ℕ) → at + 16 ≤ handlers_at file at
 unfolding tries_at handlers_at

@@ -4,8 +4,8 @@ use Rattle.std.specs.List.Sorted.{IsNonDecreasingBy, IsPartitionPoint}
 use Rattle.std.specs.Ordering.{nat_cmp, ordering_index}
 use Rattle.std.specs.declared.cmp.Ordering.TheVariants.{Less, Equal, Greater}
 use Rattle.std.proofs.lemmas.Bool.Decides.{nat_tests}
-use Rattle.cc_meaning_classes.specs.declared.items.Handler.{Handler}
-use Rattle.cc_meaning_classes.specs.Tries.{RisesFrom, catches_at}
+use Rattle.cc_meaning_dex.specs.declared.items.Handler.{Handler}
+use Rattle.cc_meaning_dex.specs.Tries.{RisesFrom, catches_at}
 
 other : (a b : ℕ) → a ≢ b → eqb a b ≡ false
 other a b h = grind (arith, nat_tests)

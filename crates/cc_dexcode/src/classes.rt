@@ -2,9 +2,9 @@
 
 ghost use Rattle.std.specs.Prelude.{◌≡◌, ◌≢◌, ◌<◌, ◌^◌, length, List, Option, None, Err, IfOk, IfErr};
 ghost use Rattle.cc_meaning.specs.declared.file.RawClass.{RawClass};
-ghost use Rattle.cc_meaning_file.specs.Ids.{SpellsIds};
-ghost use Rattle.cc_meaning_classes.specs.Causes.{IsFirstCause};
-ghost use Rattle.cc_meaning_classes.specs.Classes.{or_fault, code_fault, methods_with_code, class_of, classes_from, SpellsClasses, classes_of};
+ghost use Rattle.cc_meaning_dex.specs.Ids.{SpellsIds};
+ghost use Rattle.cc_meaning_dex.specs.Causes.{IsFirstCause};
+ghost use Rattle.cc_meaning_dex.specs.Classes.{or_fault, code_fault, methods_with_code, class_of, classes_from, SpellsClasses, classes_of};
 ghost use Rattle.cc_dexcode.specs.Finding.{Finds, Answers, Judges};
 
 use crate::code::has_sound_code;
@@ -15,7 +15,7 @@ use crate::values::read_values;
 use cc_list::List;
 use cc_meaning::fault::DexFault;
 use cc_meaning::file::{ClassRow, Ids, RawClass, RawClasses, RawMethods};
-use cc_meaning_classes::{StatedMethod, classes_agree, faults_caused};
+use cc_meaning_dex::{StatedMethod, classes_agree, faults_caused};
 use std::alloc::Global;
 
 /// What was read of a part, or this fault where it is malformed.
@@ -61,7 +61,7 @@ fn read_methods(
 }
 
 /// Reads a class, by its number among the class definitions.
-#[tactic(auto, unfolding(cc_meaning_classes::specs::Classes::class_of))]
+#[tactic(auto, unfolding(cc_meaning_dex::specs::Classes::class_of))]
 fn read_class(
     alloc: Global,
     file: &[u8],

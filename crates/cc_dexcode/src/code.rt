@@ -2,16 +2,16 @@
 
 ghost use Rattle.std.specs.Prelude.{◌≡◌, ◌+◌, ◌*◌, ◌≤◌, ◌==◌, ◌<◌, ◌^◌};
 ghost use Rattle.std.specs.List.{sum_by};
-ghost use Rattle.cc_meaning_file.specs.Numbers.{Within};
-ghost use Rattle.cc_meaning_classes.specs.CodeItems.{has_flag, is_static_method, has_no_code, type_width, argument_registers, is_number, register_count, argument_count, try_count, unit_count, tries_at, handlers_at, padding, code_fits, has_sound_code, unit_at};
+ghost use Rattle.cc_meaning_dex.specs.Numbers.{Within};
+ghost use Rattle.cc_meaning_dex.specs.CodeItems.{has_flag, is_static_method, has_no_code, type_width, argument_registers, is_number, register_count, argument_count, try_count, unit_count, tries_at, handlers_at, padding, code_fits, has_sound_code, unit_at};
 ghost use Rattle.cc_dexcode.specs.Finding.{Finds};
 
 use crate::flaw::Flaw;
-use crate::numbers::{u16_at, u32_at};
 use crate::rows::descriptor;
 use crate::walk::ItemReader;
 use cc_meaning::file::Ids;
-use cc_meaning_classes::{Cursor, StatedMethod};
+use cc_meaning_dex::{Cursor, StatedMethod};
+use cc_text::{u16_at, u32_at};
 use std::alloc::Global;
 
 /// The access flag of what is static.
@@ -25,6 +25,9 @@ const ABSTRACT: u32 = 0x400;
 
 /// `J`, the descriptor of a long.
 const LONG: u16 = 74;
+
+/// `D`, the descriptor of a double.
+const DOUBLE: u16 = 68;
 
 /// The bytes of a code item's head.
 const HEAD: usize = 16;
@@ -42,7 +45,7 @@ fn type_width(ids: &Ids, row: u32) -> u16
     ensures few { result ≤ 2 }
 {
     match descriptor(ids, row) {
-        Some([LONG, ..]) => 2,
+        Some([LONG | DOUBLE, ..]) => 2,
         _ => 1,
     }
 }
@@ -77,7 +80,7 @@ fn takes_registers(ids: &Ids, row: u32, flags: u32, registers: u16) -> bool
 }
 
 /// Where the units' count and the tries' count put the tries, for the code item at `at`.
-#[tactic(auto, unfolding(cc_meaning_classes::specs::CodeItems::tries_at))]
+#[tactic(auto, unfolding(cc_meaning_dex::specs::CodeItems::tries_at))]
 pub fn tries_at(file: &[u8], at: usize) -> usize
     requires head { Within file.now at 16 }
     requires small { at < 2 ^ 32 }
@@ -91,7 +94,7 @@ pub fn tries_at(file: &[u8], at: usize) -> usize
 }
 
 /// Where the handler list of the code item at `at` stands.
-#[tactic(auto, unfolding(cc_meaning_classes::specs::CodeItems::handlers_at))]
+#[tactic(auto, unfolding(cc_meaning_dex::specs::CodeItems::handlers_at))]
 pub fn handlers_at(file: &[u8], at: usize) -> usize
     requires head { Within file.now at 16 }
     requires small { at < 2 ^ 32 }
@@ -102,7 +105,7 @@ pub fn handlers_at(file: &[u8], at: usize) -> usize
 }
 
 /// Whether a code item lies in the file but for its handler list, and its arguments are the method's and among its registers.
-#[tactic(auto, using(crate::proofs::Places::no_head), unfolding(cc_meaning_classes::specs::CodeItems::code_fits))]
+#[tactic(auto, using(crate::proofs::Places::no_head), unfolding(cc_meaning_dex::specs::CodeItems::code_fits))]
 fn code_fits(file: &[u8], ids: &Ids, method: StatedMethod) -> bool
     ensures { result ≡ code_fits file.now ids.now method }
 {
@@ -118,7 +121,7 @@ fn code_fits(file: &[u8], ids: &Ids, method: StatedMethod) -> bool
 }
 
 /// Whether a method has the code that it is to have.
-#[tactic(auto, unfolding(cc_meaning_classes::specs::CodeItems::has_sound_code))]
+#[tactic(auto, unfolding(cc_meaning_dex::specs::CodeItems::has_sound_code))]
 pub fn has_sound_code(file: &[u8], ids: &Ids, method: StatedMethod) -> bool
     ensures { result ≡ has_sound_code file.now ids.now method }
 {
@@ -140,7 +143,7 @@ impl ItemReader for UnitReader<'_> {
 
     ghost item_at = { λ reader from. unit_at reader.file.now from };
 
-    #[tactic(auto, unfolding(cc_meaning_classes::specs::CodeItems::unit_at))]
+    #[tactic(auto, unfolding(cc_meaning_dex::specs::CodeItems::unit_at))]
     fn read_item(&self, _alloc: Global, from: Cursor) -> Result<(u16, Cursor), Flaw> {
         if self.file.len() < 2 || from.at > self.file.len() - 2 {
             return Err(Flaw::Malformed);

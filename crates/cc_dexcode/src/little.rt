@@ -1,8 +1,8 @@
 //! Numbers of so many bytes.
 
 ghost use Rattle.std.specs.Prelude.{◌≡◌, ◌+◌, ◌≤◌, ◌<◌, ◌^◌, pos, length};
-ghost use Rattle.cc_meaning_file.specs.Numbers.{Within};
-ghost use Rattle.cc_meaning_classes.specs.Values.{little_at, signed_little_at, number_fits};
+ghost use Rattle.cc_meaning_dex.specs.Numbers.{Within};
+ghost use Rattle.cc_meaning_dex.specs.Values.{little_at, signed_little_at, number_fits};
 
 use byteorder::{ByteOrder, LittleEndian};
 

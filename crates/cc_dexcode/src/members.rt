@@ -1,7 +1,7 @@
 //! Class data: the fields and methods of a class.
 
-ghost use Rattle.cc_meaning_classes.specs.Sequences.{list_at};
-ghost use Rattle.cc_meaning_classes.specs.Members.{field_at, method_at, fields_at, methods_at, class_data_at, members_of};
+ghost use Rattle.cc_meaning_dex.specs.Sequences.{list_at};
+ghost use Rattle.cc_meaning_dex.specs.Members.{field_at, method_at, fields_at, methods_at, class_data_at, members_of};
 ghost use Rattle.cc_dexcode.specs.Finding.{Finds};
 
 use crate::flaw::Flaw;
@@ -10,7 +10,7 @@ use crate::rows::{is_field_of, is_method_of, row_behind};
 use crate::walk::{ItemReader, read_list};
 use cc_list::List;
 use cc_meaning::file::{ClassRow, Ids, RawField, RawFields};
-use cc_meaning_classes::{Cursor, Members, StatedMethod};
+use cc_meaning_dex::{Cursor, Members, StatedMethod};
 use std::alloc::Global;
 
 /// Reads fields of the class of a row of types.
@@ -27,7 +27,7 @@ impl ItemReader for FieldReader<'_> {
 
     ghost item_at = { λ reader from. field_at reader.file.now reader.ids.now reader.class reader.is_static from };
 
-    #[tactic(auto, unfolding(cc_meaning_classes::specs::Members::field_at))]
+    #[tactic(auto, unfolding(cc_meaning_dex::specs::Members::field_at))]
     fn read_item(&self, _alloc: Global, from: Cursor) -> Result<(RawField, Cursor), Flaw> {
         let (difference, flags_at) = number(self.file, from.at)?;
         let (flags, next) = number(self.file, flags_at)?;
@@ -58,7 +58,7 @@ impl ItemReader for MethodReader<'_> {
 
     ghost item_at = { λ reader from. method_at reader.file.now reader.ids.now reader.class reader.is_direct from };
 
-    #[tactic(auto, unfolding(cc_meaning_classes::specs::Members::method_at))]
+    #[tactic(auto, unfolding(cc_meaning_dex::specs::Members::method_at))]
     fn read_item(&self, _alloc: Global, from: Cursor) -> Result<(StatedMethod, Cursor), Flaw> {
         let (difference, flags_at) = number(self.file, from.at)?;
         let (flags, code_place) = number(self.file, flags_at)?;
@@ -125,7 +125,7 @@ impl ClassReader<'_> {
     }
 
     /// So many static fields from `at` on, then so many instance fields; and the place after them.
-    #[tactic(auto, unfolding(cc_meaning_classes::specs::Members::fields_at))]
+    #[tactic(auto, unfolding(cc_meaning_dex::specs::Members::fields_at))]
     fn fields(
         &self,
         alloc: Global,
@@ -142,7 +142,7 @@ impl ClassReader<'_> {
     }
 
     /// So many direct methods from `at` on, then so many virtual methods; and the place after them.
-    #[tactic(auto, unfolding(cc_meaning_classes::specs::Members::methods_at))]
+    #[tactic(auto, unfolding(cc_meaning_dex::specs::Members::methods_at))]
     fn methods(
         &self,
         alloc: Global,
@@ -159,7 +159,7 @@ impl ClassReader<'_> {
     }
 
     /// The members that stand at `at`.
-    #[tactic(auto, unfolding(cc_meaning_classes::specs::Members::class_data_at))]
+    #[tactic(auto, unfolding(cc_meaning_dex::specs::Members::class_data_at))]
     fn class_data(&self, alloc: Global, at: usize) -> Result<Members, Flaw>
         ensures { Finds (class_data_at self.now.file.now self.now.ids.now self.now.class at) result }
     {
@@ -174,7 +174,7 @@ impl ClassReader<'_> {
 }
 
 /// The members of a class, none where its class data stands at offset 0.
-#[tactic(auto, unfolding(cc_meaning_classes::specs::Members::members_of))]
+#[tactic(auto, unfolding(cc_meaning_dex::specs::Members::members_of))]
 pub fn read_members(
     alloc: Global,
     file: &[u8],

@@ -1,21 +1,21 @@
 //! Methods with their code.
 
 ghost use Rattle.std.specs.Prelude.{◌≡◌, ◌≢◌, ◌<◌, ◌^◌};
-ghost use Rattle.cc_meaning_file.specs.Numbers.{Within};
-ghost use Rattle.cc_meaning_classes.specs.Tries.{code_item_at, code_of, method_of};
+ghost use Rattle.cc_meaning_dex.specs.Numbers.{Within};
+ghost use Rattle.cc_meaning_dex.specs.Tries.{code_item_at, code_of, method_of};
 ghost use Rattle.cc_dexcode.specs.Finding.{Finds};
 
 use crate::code::UnitReader;
 use crate::flaw::Flaw;
-use crate::numbers::{u16_at, u32_at};
 use crate::tries::read_tries;
 use crate::walk::read_list;
 use cc_meaning::file::{Ids, RawCode, RawMethod};
-use cc_meaning_classes::StatedMethod;
+use cc_meaning_dex::StatedMethod;
+use cc_text::{u16_at, u32_at};
 use std::alloc::Global;
 
 /// The code item at `at`.
-#[tactic(auto, unfolding(cc_meaning_classes::specs::Tries::code_item_at))]
+#[tactic(auto, unfolding(cc_meaning_dex::specs::Tries::code_item_at))]
 fn read_code_item(alloc: Global, file: &[u8], ids: &Ids, at: usize) -> Result<RawCode, Flaw>
     requires head { Within file.now at 16 }
     requires small { at < 2 ^ 32 }
@@ -32,7 +32,7 @@ fn read_code_item(alloc: Global, file: &[u8], ids: &Ids, at: usize) -> Result<Ra
 }
 
 /// The code at `at`, none at offset 0.
-#[tactic(auto, unfolding(cc_meaning_classes::specs::Tries::code_of))]
+#[tactic(auto, unfolding(cc_meaning_dex::specs::Tries::code_of))]
 fn read_code(alloc: Global, file: &[u8], ids: &Ids, at: u32) -> Result<Option<RawCode>, Flaw>
     requires { at ≢ 0 → Within file.now at 16 }
     ensures { Finds (code_of file.now ids.now at) result }
@@ -45,7 +45,7 @@ fn read_code(alloc: Global, file: &[u8], ids: &Ids, at: u32) -> Result<Option<Ra
 }
 
 /// A method with its code.
-#[tactic(auto, unfolding(cc_meaning_classes::specs::Tries::method_of))]
+#[tactic(auto, unfolding(cc_meaning_dex::specs::Tries::method_of))]
 pub fn read_method(
     alloc: Global,
     file: &[u8],

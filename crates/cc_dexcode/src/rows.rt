@@ -1,8 +1,8 @@
 //! What the tables of a file say of the rows that its classes name.
 
 ghost use Rattle.std.specs.Prelude.{◌≡◌, ◌+◌, MatchOption, Some, None, IfSome};
-ghost use Rattle.cc_meaning_classes.specs.Rows.{descriptor_of, is_same_type, is_field_of, is_method_of};
-ghost use Rattle.cc_meaning_classes.specs.Members.{row_behind};
+ghost use Rattle.cc_meaning_dex.specs.Rows.{descriptor_of, is_same_type, is_field_of, is_method_of};
+ghost use Rattle.cc_meaning_dex.specs.Members.{row_behind};
 ghost use Rattle.cc_dexcode.specs.Finding.{Finds};
 
 use crate::flaw::Flaw;

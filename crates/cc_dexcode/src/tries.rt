@@ -1,18 +1,19 @@
 //! Tries with their handlers.
 
 ghost use Rattle.std.specs.Prelude.{◌≡◌, ◌≤◌, ◌<◌, ◌^◌, length, MatchOption, None, Some};
-ghost use Rattle.cc_meaning_file.specs.Numbers.{Within};
-ghost use Rattle.cc_meaning_classes.specs.Tries.{is_value_type, pair_at, catch_all_at, handler_at, handlers_of, RisesFrom, catches_at, try_at, some_tries_of, tries_of};
+ghost use Rattle.cc_meaning_dex.specs.Numbers.{Within};
+ghost use Rattle.cc_meaning_dex.specs.Tries.{is_value_type, pair_at, catch_all_at, handler_at, handlers_of, RisesFrom, catches_at, try_at, some_tries_of, tries_of};
 ghost use Rattle.cc_dexcode.specs.Finding.{Finds};
 
 use crate::code::{handlers_at, tries_at};
 use crate::flaw::Flaw;
-use crate::numbers::{number, signed_number, u16_at, u32_at};
+use crate::numbers::{number, signed_number};
 use crate::rows::descriptor;
 use crate::walk::{ItemReader, read_list};
 use cc_list::List;
 use cc_meaning::file::{Ids, RawCatch, RawCatches, RawTries, RawTry};
-use cc_meaning_classes::{Cursor, Handler, handlers_rise};
+use cc_meaning_dex::{Cursor, Handler, handlers_rise};
+use cc_text::{u16_at, u32_at};
 use std::alloc::Global;
 
 /// `V`, the descriptor of no value.
@@ -40,7 +41,7 @@ impl ItemReader for PairReader<'_> {
 
     ghost item_at = { λ reader from. pair_at reader.file.now reader.ids.now from };
 
-    #[tactic(auto, unfolding(cc_meaning_classes::specs::Tries::pair_at))]
+    #[tactic(auto, unfolding(cc_meaning_dex::specs::Tries::pair_at))]
     fn read_item(&self, _alloc: Global, from: Cursor) -> Result<(RawCatch, Cursor), Flaw> {
         let (row, address_at) = number(self.file, from.at)?;
         let (at, next) = number(self.file, address_at)?;
@@ -70,7 +71,7 @@ impl ItemReader for HandlerReader<'_> {
 
     ghost item_at = { λ reader from. handler_at reader.file.now reader.ids.now from };
 
-    #[tactic(auto, unfolding(cc_meaning_classes::specs::Tries::handler_at))]
+    #[tactic(auto, unfolding(cc_meaning_dex::specs::Tries::handler_at))]
     fn read_item(&self, alloc: Global, from: Cursor) -> Result<(Handler, Cursor), Flaw> {
         let (size, pairs_at) = signed_number(self.file, from.at)?;
         let pairs = PairReader {
@@ -94,7 +95,7 @@ impl ItemReader for HandlerReader<'_> {
 }
 
 /// The pairs of a handler of this size, and behind them what takes all, where the size isn't positive; and the place after the handler.
-#[tactic(auto, unfolding(cc_meaning_classes::specs::Tries::catch_all_at))]
+#[tactic(auto, unfolding(cc_meaning_dex::specs::Tries::catch_all_at))]
 fn with_catch_all(
     file: &[u8],
     size: i32,
@@ -116,7 +117,7 @@ fn with_catch_all(
 }
 
 /// The handlers of the handler list at `at`.
-#[tactic(auto, unfolding(cc_meaning_classes::specs::Tries::handlers_of))]
+#[tactic(auto, unfolding(cc_meaning_dex::specs::Tries::handlers_of))]
 fn read_handlers(alloc: Global, file: &[u8], ids: &Ids, at: usize) -> Result<List<Handler>, Flaw>
     ensures { Finds (handlers_of file.now ids.now at) result }
 {
@@ -153,7 +154,7 @@ impl ItemReader for TryReader<'_> {
 
     ghost item_at = { λ reader from. try_at reader.file.now reader.units reader.list reader.handlers.now from };
 
-    #[tactic(auto, unfolding(cc_meaning_classes::specs::Tries::try_at))]
+    #[tactic(auto, unfolding(cc_meaning_dex::specs::Tries::try_at))]
     fn read_item(&self, _alloc: Global, from: Cursor) -> Result<(RawTry, Cursor), Flaw> {
         if self.file.len() < 8 || from.at > self.file.len() - 8 {
             return Err(Flaw::Malformed);
@@ -181,7 +182,7 @@ impl ItemReader for TryReader<'_> {
 }
 
 /// The tries of the code item at `at`, and with them its handler list, where it has some.
-#[tactic(auto, unfolding(cc_meaning_classes::specs::Tries::tries_of))]
+#[tactic(auto, unfolding(cc_meaning_dex::specs::Tries::tries_of))]
 pub fn read_tries(alloc: Global, file: &[u8], ids: &Ids, at: usize) -> Result<RawTries, Flaw>
     requires head { Within file.now at 16 }
     requires small { at < 2 ^ 32 }
@@ -194,7 +195,7 @@ pub fn read_tries(alloc: Global, file: &[u8], ids: &Ids, at: usize) -> Result<Ra
 }
 
 /// The tries of the code item at `at`, which has some.
-#[tactic(auto, unfolding(cc_meaning_classes::specs::Tries::some_tries_of))]
+#[tactic(auto, unfolding(cc_meaning_dex::specs::Tries::some_tries_of))]
 fn read_some_tries(alloc: Global, file: &[u8], ids: &Ids, at: usize) -> Result<RawTries, Flaw>
     requires head { Within file.now at 16 }
     requires small { at < 2 ^ 32 }

@@ -3,7 +3,7 @@
 ghost use Rattle.std.specs.Prelude.{◌≡◌, ◌%◌, ◌/◌, ◌≤◌};
 ghost use Rattle.std.specs.Str.{bytes_eq};
 ghost use Rattle.cc_meaning.specs.BuiltIn.{string_name};
-ghost use Rattle.cc_meaning_classes.specs.Values.{kind_of, field_kind, boolean_by, null_by, signed_by, char_by, long_by, text_by, value_by, value_at, element_at, some_values_at, values_at};
+ghost use Rattle.cc_meaning_dex.specs.Values.{kind_of, field_kind, boolean_by, null_by, signed_by, char_by, long_by, text_by, value_by, value_at, element_at, some_values_at, values_at};
 ghost use Rattle.cc_dexcode.specs.Finding.{Finds};
 
 use crate::flaw::Flaw;
@@ -13,7 +13,7 @@ use crate::rows::{descriptor, row_behind};
 use crate::walk::{ItemReader, read_list};
 use cc_meaning::file::{Ids, RawField};
 use cc_meaning::program::{StaticValue, StaticValues};
-use cc_meaning_classes::{Cursor, ValueKind};
+use cc_meaning_dex::{Cursor, ValueKind};
 use std::alloc::Global;
 
 /// The descriptor of the class of strings, `Ljava/lang/String;`.
@@ -47,7 +47,7 @@ fn is_string(units: &[u16]) -> bool
 }
 
 /// What a static value of a field of this type may be.
-#[tactic(auto, unfolding(cc_meaning_classes::specs::Values::kind_of))]
+#[tactic(auto, unfolding(cc_meaning_dex::specs::Values::kind_of))]
 fn kind_of(units: &[u16]) -> Option<ValueKind>
     ensures { result ≡ kind_of units.now }
 {
@@ -155,7 +155,7 @@ fn null_value(head: Head) -> Result<(StaticValue, usize), Flaw>
 }
 
 /// A value of a kind behind its first byte.
-#[tactic(auto, unfolding(cc_meaning_classes::specs::Values::value_by))]
+#[tactic(auto, unfolding(cc_meaning_dex::specs::Values::value_by))]
 fn value_by(
     file: &[u8],
     texts: usize,
@@ -177,7 +177,7 @@ fn value_by(
 }
 
 /// The value of a kind at `at`, and the place after it.
-#[tactic(auto, unfolding(cc_meaning_classes::specs::Values::value_at))]
+#[tactic(auto, unfolding(cc_meaning_dex::specs::Values::value_at))]
 fn value_at(
     file: &[u8],
     texts: usize,
@@ -210,7 +210,7 @@ impl ItemReader for ValueReader<'_> {
 
     ghost item_at = { λ reader from. element_at reader.file.now reader.ids.now reader.fields.now from };
 
-    #[tactic(auto, unfolding(cc_meaning_classes::specs::Values::element_at))]
+    #[tactic(auto, unfolding(cc_meaning_dex::specs::Values::element_at))]
     fn read_item(&self, _alloc: Global, from: Cursor) -> Result<(StaticValue, Cursor), Flaw> {
         let Some(field) = self.fields.get(from.row as usize) else {
             return Err(Flaw::Malformed);
@@ -228,7 +228,7 @@ impl ItemReader for ValueReader<'_> {
 }
 
 /// The values at `at`, for the first of these fields that are static; none at offset 0.
-#[tactic(auto, unfolding(cc_meaning_classes::specs::Values::values_at))]
+#[tactic(auto, unfolding(cc_meaning_dex::specs::Values::values_at))]
 pub fn read_values(
     alloc: Global,
     file: &[u8],
@@ -245,7 +245,7 @@ pub fn read_values(
 }
 
 /// The values that stand at `at`.
-#[tactic(auto, unfolding(cc_meaning_classes::specs::Values::some_values_at))]
+#[tactic(auto, unfolding(cc_meaning_dex::specs::Values::some_values_at))]
 fn read_some_values(
     alloc: Global,
     reader: &ValueReader<'_>,

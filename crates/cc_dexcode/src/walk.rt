@@ -1,13 +1,13 @@
 //! Items that stand one after the other are read in order.
 
 ghost use Rattle.std.specs.Prelude.{Option};
-ghost use Rattle.cc_meaning_classes.specs.declared.items.Cursor.{Cursor};
-ghost use Rattle.cc_meaning_classes.specs.Sequences.{items_from, list_at};
+ghost use Rattle.cc_meaning_dex.specs.declared.items.Cursor.{Cursor};
+ghost use Rattle.cc_meaning_dex.specs.Sequences.{items_from, list_at};
 ghost use Rattle.cc_dexcode.specs.Finding.{Finds};
 
 use crate::flaw::Flaw;
 use cc_list::List;
-use cc_meaning_classes::Cursor;
+use cc_meaning_dex::Cursor;
 use std::alloc::Global;
 
 /// What reads the items of one list.

@@ -2,11 +2,11 @@
 use Rattle.std.proofs.Common.{◌≡◌, inl, inr, ℕ, ◌<◌, ◌≤◌, true, false, ◌&&◌, nat_lt, List, length, slice_get, Some, None, sym, ap, ◌∙◌, arith}
 use Rattle.std.proofs.lemmas.Bool.Decides.{nat_tests}
 use Rattle.std.proofs.lemmas.Option.{slice_get_within, slice_get_cases}
-use Rattle.cc_meaning_file.specs.declared.table.Table.TheVariants.{Texts, Types}
-use Rattle.cc_meaning_file.specs.Tables.{row_count}
-use Rattle.cc_meaning_file.specs.Descriptors.{is_paired, is_descriptor}
-use Rattle.cc_meaning_file.specs.Faults.{text_units, type_text, is_name, is_described}
-use Rattle.cc_meaning_file.specs.Ids.{EachSpelled}
+use Rattle.cc_meaning_dex.specs.declared.table.Table.TheVariants.{Texts, Types}
+use Rattle.cc_meaning_dex.specs.Tables.{row_count}
+use Rattle.cc_meaning_dex.specs.Descriptors.{is_paired, is_descriptor}
+use Rattle.cc_meaning_dex.specs.Faults.{text_units, type_text, is_name, is_described}
+use Rattle.cc_meaning_dex.specs.Ids.{EachSpelled}
 use Rattle.cc_dexids.specs.Known.{TextRead, IsKnown}
 
 pub none_past : {A : Type 0} (items : List A) (place : ℕ) → slice_get items place ≡ None → length items ≤ place

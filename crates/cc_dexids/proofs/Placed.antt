@@ -1,10 +1,10 @@
 -- A row below its table's count lies in the file.
 use Rattle.std.proofs.Common.{◌≡◌, ◌⊎◌, inl, inr, ℕ, ◌+◌, ◌*◌, ◌<◌, ◌≤◌, List, length, arith}
 use Rattle.std.proofs.lemmas.Nat.{mul-le}
-use Rattle.cc_meaning_file.specs.Numbers.{Within}
-use Rattle.cc_meaning_file.specs.declared.table.Table.{Table}
-use Rattle.cc_meaning_file.specs.declared.table.Table.TheVariants.{Texts, Types, Prototypes, Fields, Methods, Classes}
-use Rattle.cc_meaning_file.specs.Tables.{row_bytes, row_count, table_at, row_at, HasTables, IsRow, StandsInFile}
+use Rattle.cc_meaning_dex.specs.Numbers.{Within}
+use Rattle.cc_meaning_dex.specs.declared.table.Table.{Table}
+use Rattle.cc_meaning_dex.specs.declared.table.Table.TheVariants.{Texts, Types, Prototypes, Fields, Methods, Classes}
+use Rattle.cc_meaning_dex.specs.Tables.{row_bytes, row_count, table_at, row_at, HasTables, IsRow, StandsInFile}
 
 table_stands : (file : List ℕ) (table : Table) → HasTables file → StandsInFile file table
 table_stands file Texts h = h.texts

@@ -2,11 +2,11 @@
 use Rattle.std.proofs.Common.{◌≡◌, ℕ, Bool, true, false, ◌&&◌, nat_lt, List, [], Some, None, Result, Ok, Err, unwrap_or, refl, sym, ap, subst, arith}
 use Rattle.std.proofs.lemmas.Bool.Decides.{nat_tests}
 use Rattle.cc_meaning.specs.declared.fault.TextFault.{TextFault}
-use Rattle.cc_meaning_file.specs.declared.table.Table.TheVariants.{Texts, Types, Prototypes, Classes}
-use Rattle.cc_meaning_file.specs.Texts.{SpellsText, text_at, text_item_at, units_of}
-use Rattle.cc_meaning_file.specs.Tables.{row_count}
-use Rattle.cc_meaning_file.specs.Descriptors.{is_descriptor}
-use Rattle.cc_meaning_file.specs.Faults.{text_offset, text_units, type_text, text_fault, is_described, list_fault, params_at, prototype_fits, interfaces_at, class_fits, row_fault}
+use Rattle.cc_meaning_dex.specs.declared.table.Table.TheVariants.{Texts, Types, Prototypes, Classes}
+use Rattle.cc_meaning_dex.specs.Texts.{SpellsText, text_at, text_item_at, units_of}
+use Rattle.cc_meaning_dex.specs.Tables.{row_count}
+use Rattle.cc_meaning_dex.specs.Descriptors.{is_descriptor}
+use Rattle.cc_meaning_dex.specs.Faults.{text_offset, text_units, type_text, text_fault, is_described, list_fault, params_at, prototype_fits, interfaces_at, class_fits, row_fault}
 use Rattle.cc_dexids.specs.Known.{TextRead, TypeRead}
 
 -- ---- texts

@@ -4,7 +4,7 @@ use mathlib.Core.Bool.{beq}
 use Rattle.std.specs.List.{list_all}
 use Rattle.std.proofs.lemmas.List.{drop_more, at_drop_all}
 use Rattle.std.proofs.lemmas.Bool.Decides.{nat_tests}
-use Rattle.cc_meaning_file.specs.Descriptors.{is_high, is_low, paired_after, is_paired, is_name_unit, name_of, is_class_descriptor, dims_of}
+use Rattle.cc_meaning_dex.specs.Descriptors.{is_high, is_low, paired_after, is_paired, is_name_unit, name_of, is_class_descriptor, dims_of}
 
 -- ---- pairs
 

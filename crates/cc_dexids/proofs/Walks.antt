@@ -1,8 +1,8 @@
 -- Rows one after the other, and the first of them that has a fault.
 use Rattle.std.proofs.Common.{◌≡◌, ◌⊎◌, inl, inr, ℕ, zero, suc, ◌+◌, ◌-◌, ◌<◌, List, [], ◌∷◌, ◌++◌, length, slice_get, Option, Some, None, refl, sym, subst, ◌∙◌, add-one, length-append, arith}
 use Rattle.cc_meaning.specs.declared.fault.DexFault.{DexFault}
-use Rattle.cc_meaning_file.specs.Faults.{first_below}
-use Rattle.cc_meaning_file.specs.Ids.{EachSpelled}
+use Rattle.cc_meaning_dex.specs.Faults.{first_below}
+use Rattle.cc_meaning_dex.specs.Ids.{EachSpelled}
 
 -- ---- what each place spells
 

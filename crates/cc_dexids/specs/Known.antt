@@ -1,9 +1,9 @@
 -- What is known of the texts and types that were read.
 use Rattle.std.specs.Prelude.{◌≡◌, ◌<◌, ℕ, List}
-use Rattle.cc_meaning_file.specs.declared.table.Table.TheVariants.{Texts, Types}
-use Rattle.cc_meaning_file.specs.Tables.{row_count, IsLaidOut}
-use Rattle.cc_meaning_file.specs.Faults.{text_units}
-use Rattle.cc_meaning_file.specs.Ids.{EachSpelled, TextSpelled, TypeSpelled}
+use Rattle.cc_meaning_dex.specs.declared.table.Table.TheVariants.{Texts, Types}
+use Rattle.cc_meaning_dex.specs.Tables.{row_count, IsLaidOut}
+use Rattle.cc_meaning_dex.specs.Faults.{text_units}
+use Rattle.cc_meaning_dex.specs.Ids.{EachSpelled, TextSpelled, TypeSpelled}
 
 -- a text that was read is the one by which later rows are judged
 pub record TextRead (file : List ℕ) (row : ℕ) (units : List ℕ) : Type 0 where

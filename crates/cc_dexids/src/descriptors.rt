@@ -2,7 +2,7 @@
 
 ghost use Rattle.std.specs.Prelude.{◌≡◌, ◌≤◌, drop, length};
 ghost use Rattle.std.specs.List.{list_all};
-ghost use Rattle.cc_meaning_file.specs.Descriptors.{is_high, is_low, is_paired, is_name_unit, is_class_descriptor, is_primitive, dims_of, is_base, is_descriptor, names_class, names_reference, names_value};
+ghost use Rattle.cc_meaning_dex.specs.Descriptors.{is_high, is_low, is_paired, is_name_unit, is_class_descriptor, is_primitive, dims_of, is_base, is_descriptor, names_class, names_reference, names_value};
 
 /// The most dimensions that an array has.
 const MOST_DIMS: usize = 255;
@@ -63,7 +63,7 @@ fn has_name_units(units: &[u16]) -> bool
 }
 
 /// Whether these units are the descriptor of a class: `L`, a name, and `;`.
-#[tactic(auto, using(crate::proofs::Units::descriptor_by_name), unfolding(cc_meaning_file::specs::Descriptors::is_class_descriptor))]
+#[tactic(auto, using(crate::proofs::Units::descriptor_by_name), unfolding(cc_meaning_dex::specs::Descriptors::is_class_descriptor))]
 fn is_class_descriptor(units: &[u16]) -> bool
     ensures { result ≡ is_class_descriptor units.now }
 {
@@ -110,7 +110,7 @@ fn is_base(dims: usize, base: &[u16]) -> bool
 }
 
 /// Whether these units are the descriptor of a type.
-#[tactic(auto, unfolding(cc_meaning_file::specs::Descriptors::is_descriptor))]
+#[tactic(auto, unfolding(cc_meaning_dex::specs::Descriptors::is_descriptor))]
 pub fn is_descriptor(units: &[u16]) -> bool
     ensures { result ≡ is_descriptor units.now }
 {

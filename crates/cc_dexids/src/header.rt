@@ -2,12 +2,11 @@
 
 ghost use Rattle.std.specs.Prelude.{◌≡◌, ◌≤◌, length, Some, None, OnOk, MatchResult};
 ghost use Rattle.std.specs.List.{starts_with};
-ghost use Rattle.cc_meaning_file.specs.Faults.{header_fault, sums_fault};
-ghost use Rattle.cc_meaning_file.specs.Tables.{found_signature};
+ghost use Rattle.cc_meaning_dex.specs.Faults.{header_fault, sums_fault};
+ghost use Rattle.cc_meaning_dex.specs.Tables.{found_signature};
 
-use crate::bytes::u32_at;
 use cc_meaning::fault::DexFault;
-use cc_text::adler32;
+use cc_text::{adler32, u32_at};
 use sha1::Sha1;
 
 /// The longest file that is read, in bytes.
@@ -20,7 +19,7 @@ pub const HEADER: usize = 112;
 const USUAL_ORDER: u32 = 0x1234_5678;
 
 /// Judges the header: size, beginning, order of bytes, stated sizes, sum and signature.
-#[tactic(auto, unfolding(cc_meaning_file::specs::Faults::header_fault))]
+#[tactic(auto, unfolding(cc_meaning_dex::specs::Faults::header_fault))]
 pub fn check_header(file: &[u8]) -> Result<(), DexFault>
     ensures judged { MatchResult result (λ _. header_fault file.now ≡ None) (λ fault. header_fault file.now ≡ Some fault) }
     ensures whole { OnOk result (HEADER ≤ length file.now) }
@@ -44,7 +43,7 @@ pub fn check_header(file: &[u8]) -> Result<(), DexFault>
 }
 
 /// Judges the sum and the signature of a file that has a whole header.
-#[tactic(auto, unfolding(cc_meaning_file::specs::Faults::sums_fault))]
+#[tactic(auto, unfolding(cc_meaning_dex::specs::Faults::sums_fault))]
 fn check_sums(file: &[u8]) -> Result<(), DexFault>
     requires { HEADER ≤ length file.now }
     ensures { MatchResult result (λ _. sums_fault file.now ≡ None) (λ fault. sums_fault file.now ≡ Some fault) }

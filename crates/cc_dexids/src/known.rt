@@ -2,17 +2,17 @@
 
 ghost use Rattle.std.specs.Prelude.{◌≡◌, ◌<◌, ◌≤◌, MatchOption, nat_lt, ◌&&◌};
 ghost use Rattle.std.specs.List.{list_all};
-ghost use Rattle.cc_meaning_file.specs.declared.table.Table.TheVariants.{Types, Prototypes};
-ghost use Rattle.cc_meaning_file.specs.Tables.{row_count};
-ghost use Rattle.cc_meaning_file.specs.Descriptors.{names_class, names_reference, names_value};
-ghost use Rattle.cc_meaning_file.specs.Faults.{text_units, type_text, is_type, is_name, may_extend};
+ghost use Rattle.cc_meaning_dex.specs.declared.table.Table.TheVariants.{Types, Prototypes};
+ghost use Rattle.cc_meaning_dex.specs.Tables.{row_count};
+ghost use Rattle.cc_meaning_dex.specs.Descriptors.{names_class, names_reference, names_value};
+ghost use Rattle.cc_meaning_dex.specs.Faults.{text_units, type_text, is_type, is_name, may_extend};
 ghost use Rattle.cc_dexids.specs.Known.{IsKnown};
 
 use crate::descriptors::{is_paired, names_class, names_reference, names_value};
 use crate::tables::row_count;
 use cc_meaning::file::{FieldRow, MethodRow};
 use cc_meaning::lists::{Rows, Texts};
-use cc_meaning_file::Table;
+use cc_meaning_dex::Table;
 
 /// The number that stands for no row.
 pub const NO_ROW: u32 = 0xffff_ffff;

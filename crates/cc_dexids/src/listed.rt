@@ -2,16 +2,16 @@
 
 ghost use Rattle.std.specs.Prelude.{◌≡◌, ◌+◌, ◌*◌, IfOk, map};
 ghost use Rattle.std.specs.List.{range_with_len};
-ghost use Rattle.cc_meaning_file.specs.Numbers.{Within, u16_at};
-ghost use Rattle.cc_meaning_file.specs.Faults.{Reads, list_fault, listed_types};
+ghost use Rattle.cc_meaning_dex.specs.Numbers.{Within, u16_at};
+ghost use Rattle.cc_meaning_dex.specs.Faults.{Reads, list_fault, listed_types};
 
-use crate::bytes::{u16_at, u32_at};
 use cc_meaning::fault::DexFault;
 use cc_meaning::lists::Rows;
+use cc_text::{u16_at, u32_at};
 use std::alloc::{AllocError, Global};
 
 /// The rows of the types that are listed at the offset `at`, none at offset 0.
-#[tactic(auto, unfolding(cc_meaning_file::specs::Faults::list_fault, cc_meaning_file::specs::Faults::listed_types))]
+#[tactic(auto, unfolding(cc_meaning_dex::specs::Faults::list_fault, cc_meaning_dex::specs::Faults::listed_types))]
 pub fn read_types(alloc: Global, file: &[u8], at: u32) -> Result<Rows, DexFault>
     ensures { Reads (list_fault file.now at) (λ rows. rows ≡ listed_types file.now at) result }
 {

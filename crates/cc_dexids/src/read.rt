@@ -2,9 +2,9 @@
 
 ghost use Rattle.std.specs.Prelude.{◌≡◌, ◌≢◌, IfOk, IfErr, Some};
 ghost use Rattle.cc_meaning.specs.declared.file.Ids.{Ids};
-ghost use Rattle.cc_meaning_file.specs.Tables.{IsLaidOut};
-ghost use Rattle.cc_meaning_file.specs.Faults.{Reads, rows_fault, first_of_tables, first_fault};
-ghost use Rattle.cc_meaning_file.specs.Ids.{TablesSpelled, SpellsIds};
+ghost use Rattle.cc_meaning_dex.specs.Tables.{IsLaidOut};
+ghost use Rattle.cc_meaning_dex.specs.Faults.{Reads, rows_fault, first_of_tables, first_fault};
+ghost use Rattle.cc_meaning_dex.specs.Ids.{TablesSpelled, SpellsIds};
 
 use crate::header::check_header;
 use crate::known::Known;
@@ -15,7 +15,7 @@ use crate::tables::{check_tables, row_count};
 use crate::walk::read_table;
 use cc_meaning::fault::DexFault;
 use cc_meaning::file::Ids;
-use cc_meaning_file::Table;
+use cc_meaning_dex::Table;
 use std::alloc::Global;
 
 /// The tables of a DEX file.
@@ -29,7 +29,7 @@ use std::alloc::Global;
 /// sort; `BadText`, its text is malformed. At any time `Memory`: there is no memory.
 ///
 /// Source: Dalvik Executable format, sections header_item to class_def_item.
-#[tactic(auto, unfolding(cc_meaning_file::specs::Faults::first_fault))]
+#[tactic(auto, unfolding(cc_meaning_dex::specs::Faults::first_fault))]
 pub fn read_ids(alloc: Global, file: &[u8]) -> Result<Ids, DexFault>
     ensures spelled { IfOk result (λ ids. SpellsIds file.now ids) }
     ensures fault { IfErr result (λ fault. fault ≢ DexFault.Memory → first_fault file.now ≡ Some fault) }

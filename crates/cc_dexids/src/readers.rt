@@ -1,13 +1,12 @@
 //! The rows of each table.
 
 ghost use Rattle.std.specs.Prelude.{◌≡◌, ℕ};
-ghost use Rattle.cc_meaning_file.specs.declared.table.Table.TheVariants as tables;
-ghost use Rattle.cc_meaning_file.specs.Tables.{table_number, row_count, IsRow, IsLaidOut};
-ghost use Rattle.cc_meaning_file.specs.Faults.{Reads, is_described, row_fault};
-ghost use Rattle.cc_meaning_file.specs.Ids.{EachSpelled, RowStated, PrototypeSpelled, FieldSpelled, MethodSpelled, ClassSpelled};
+ghost use Rattle.cc_meaning_dex.specs.declared.table.Table.TheVariants as tables;
+ghost use Rattle.cc_meaning_dex.specs.Tables.{table_number, row_count, IsRow, IsLaidOut};
+ghost use Rattle.cc_meaning_dex.specs.Faults.{Reads, is_described, row_fault};
+ghost use Rattle.cc_meaning_dex.specs.Ids.{EachSpelled, RowStated, PrototypeSpelled, FieldSpelled, MethodSpelled, ClassSpelled};
 ghost use Rattle.cc_dexids.specs.Known.{TextRead, TypeRead, IsKnown};
 
-use crate::bytes::{u16_at, u32_at};
 use crate::descriptors::is_descriptor;
 use crate::known::{Known, NO_ROW};
 use crate::listed::read_types;
@@ -16,8 +15,8 @@ use crate::walk::RowReader;
 use cc_meaning::fault::{DexFault, TextFault};
 use cc_meaning::file::{ClassRow, FieldRow, MethodRow, ProtoRow};
 use cc_meaning::lists::{Texts, Units};
-use cc_meaning_file::{Table, types_listed};
-use cc_text::text;
+use cc_meaning_dex::{Table, types_listed};
+use cc_text::{text, u16_at, u32_at};
 use std::alloc::Global;
 
 /// The fault of a row that names what isn't there or is of another sort.
@@ -52,7 +51,7 @@ impl RowReader for TextReader<'_> {
 
     ghost spelled = { λ reader row units. TextRead reader.file.now row units };
 
-    #[tactic(auto, unfolding(cc_meaning_file::specs::Faults::row_fault))]
+    #[tactic(auto, unfolding(cc_meaning_dex::specs::Faults::row_fault))]
     fn read_row(&self, alloc: Global, row: u32) -> Result<Units, DexFault> {
         let at = u32_at(self.file, row_at(self.file, Table::Texts, row));
         match text(alloc, self.file, at as usize) {
@@ -83,7 +82,7 @@ impl RowReader for TypeReader<'_> {
 
     ghost spelled = { λ reader row text. TypeRead reader.file.now row text };
 
-    #[tactic(auto, unfolding(cc_meaning_file::specs::Faults::row_fault))]
+    #[tactic(auto, unfolding(cc_meaning_dex::specs::Faults::row_fault))]
     fn read_row(&self, _alloc: Global, row: u32) -> Result<u32, DexFault> {
         let text = u32_at(self.file, row_at(self.file, Table::Types, row));
         if self.is_descriptor(text) {
@@ -123,7 +122,7 @@ impl RowReader for PrototypeReader<'_> {
 
     ghost spelled = { λ reader row prototype. PrototypeSpelled reader.known.file.now row prototype };
 
-    #[tactic(auto, unfolding(cc_meaning_file::specs::Faults::row_fault))]
+    #[tactic(auto, unfolding(cc_meaning_dex::specs::Faults::row_fault))]
     fn read_row(&self, alloc: Global, row: u32) -> Result<ProtoRow, DexFault> {
         types_listed();
         let file = self.known.file;
@@ -154,7 +153,7 @@ impl RowReader for FieldReader<'_> {
 
     ghost spelled = { λ reader row field. FieldSpelled reader.known.file.now row field };
 
-    #[tactic(auto, unfolding(cc_meaning_file::specs::Faults::row_fault))]
+    #[tactic(auto, unfolding(cc_meaning_dex::specs::Faults::row_fault))]
     fn read_row(&self, _alloc: Global, row: u32) -> Result<FieldRow, DexFault> {
         let file = self.known.file;
         let at = row_at(file, Table::Fields, row);
@@ -187,7 +186,7 @@ impl RowReader for MethodReader<'_> {
 
     ghost spelled = { λ reader row method. MethodSpelled reader.known.file.now row method };
 
-    #[tactic(auto, unfolding(cc_meaning_file::specs::Faults::row_fault))]
+    #[tactic(auto, unfolding(cc_meaning_dex::specs::Faults::row_fault))]
     fn read_row(&self, _alloc: Global, row: u32) -> Result<MethodRow, DexFault> {
         let file = self.known.file;
         let at = row_at(file, Table::Methods, row);
@@ -220,7 +219,7 @@ impl RowReader for ClassReader<'_> {
 
     ghost spelled = { λ reader row class. ClassSpelled reader.known.file.now row class };
 
-    #[tactic(auto, unfolding(cc_meaning_file::specs::Faults::row_fault))]
+    #[tactic(auto, unfolding(cc_meaning_dex::specs::Faults::row_fault))]
     fn read_row(&self, alloc: Global, row: u32) -> Result<ClassRow, DexFault> {
         types_listed();
         let file = self.known.file;

@@ -1,14 +1,14 @@
 //! Where the tables of a file stand.
 
 ghost use Rattle.std.specs.Prelude.{◌≡◌, ◌+◌, ◌≤◌, length, Some, None, OnOk, MatchResult};
-ghost use Rattle.cc_meaning_file.specs.Numbers.{Within};
-ghost use Rattle.cc_meaning_file.specs.Tables.{table_number, stated_at, row_bytes, row_count, table_at, row_at, IsRow, StandsInFile, HasTables, IsLaidOut};
-ghost use Rattle.cc_meaning_file.specs.Faults.{table_fault, first_of_tables};
+ghost use Rattle.cc_meaning_dex.specs.Numbers.{Within};
+ghost use Rattle.cc_meaning_dex.specs.Tables.{table_number, stated_at, row_bytes, row_count, table_at, row_at, IsRow, StandsInFile, HasTables, IsLaidOut};
+ghost use Rattle.cc_meaning_dex.specs.Faults.{table_fault, first_of_tables};
 
-use crate::bytes::u32_at;
 use crate::header::HEADER;
 use cc_meaning::fault::DexFault;
-use cc_meaning_file::Table;
+use cc_meaning_dex::Table;
+use cc_text::u32_at;
 
 /// The place of a table among the six.
 pub fn table_number(table: Table) -> u32
@@ -69,7 +69,7 @@ fn table_at(file: &[u8], table: Table) -> u32
 }
 
 /// Judges whether a table lies in the file.
-#[tactic(auto, unfolding(cc_meaning_file::specs::Faults::table_fault))]
+#[tactic(auto, unfolding(cc_meaning_dex::specs::Faults::table_fault))]
 fn check_table(file: &[u8], table: Table) -> Result<(), DexFault>
     requires { HEADER ≤ length file.now }
     ensures judged { MatchResult result (λ _. table_fault file.now table ≡ None) (λ fault. table_fault file.now table ≡ Some fault) }

@@ -2,8 +2,8 @@
 
 ghost use Rattle.std.specs.Prelude.{◌≡◌, ◌<◌, ℕ, Option};
 ghost use Rattle.cc_meaning.specs.declared.fault.DexFault.{DexFault};
-ghost use Rattle.cc_meaning_file.specs.Faults.{Reads, first_below};
-ghost use Rattle.cc_meaning_file.specs.Ids.{EachSpelled};
+ghost use Rattle.cc_meaning_dex.specs.Faults.{Reads, first_below};
+ghost use Rattle.cc_meaning_dex.specs.Ids.{EachSpelled};
 
 use cc_list::List;
 use cc_meaning::fault::DexFault;

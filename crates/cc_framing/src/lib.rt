@@ -10,6 +10,3 @@ mod stream;
 pub use reader::FrameReader;
 pub use spelled::frame;
 pub use stream::{feed_all, read_pieces};
-
-#[cfg(test)]
-mod tests;

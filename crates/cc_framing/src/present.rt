@@ -2,12 +2,13 @@
 
 ghost use Rattle.std.specs.Prelude.{◌≡◌, ◌<◌, ◌≤◌, ◌+◌, ◌^◌, ◌++◌, length, slice_index, OnOk, IsTrue, IsFalse, ◌↔◌};
 ghost use Rattle.cc_meaning_nodes.specs.declared.head.Head.TheVariants.{Long};
-ghost use Rattle.cc_meaning_nodes.specs.Frames.{head_of, front_of, frame_of, Partial, Whole};
+ghost use Rattle.cc_meaning_nodes.specs.Frames.{is_kind, head_of, front_of, frame_of, Partial, Whole};
 ghost use Rattle.cc_framing.specs.Reader.{IsWithin, wanted_in, FrontIs, Grows};
 
 use crate::held::{Held, PRELUDE};
 use crate::spelled::digest_of;
 use cc_meaning::fault::FrameFault;
+use cc_meaning::frame::{HELLO, REFUSE};
 use cc_meaning_nodes::head::Head;
 
 const HEAD: usize = 5;
@@ -27,6 +28,13 @@ fn byte_at(held: &Held, piece: &[u8], place: usize) -> u8
     }
 }
 
+/// Whether a byte is the kind of a frame.
+fn is_kind(kind: u8) -> bool
+    ensures { result ≡ is_kind kind }
+{
+    HELLO <= kind && kind <= REFUSE
+}
+
 /// What the head says, of what is held and the piece after it.
 #[tactic(auto, unfolding(cc_meaning_nodes::specs::Frames::head_of))]
 fn head(held: &Held, piece: &[u8]) -> Head
@@ -38,7 +46,7 @@ fn head(held: &Held, piece: &[u8]) -> Head
         return Head::Short;
     }
     let kind = byte_at(held, piece, 0);
-    if kind == 0 || kind > 5 {
+    if !is_kind(kind) {
         return Head::Wrong(FrameFault::BadKind);
     }
     if total < HEAD {

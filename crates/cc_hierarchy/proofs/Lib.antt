@@ -8,3 +8,8 @@ pub mod NameOrder
 pub mod Repeating
 pub mod Searching
 pub mod Verdicts
+pub mod Climbing
+pub mod FirstDefining
+pub mod Leading
+pub mod Numbering
+pub mod Tables

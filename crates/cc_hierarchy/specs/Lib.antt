@@ -2,3 +2,6 @@ pub mod Members
 pub mod Graphs
 pub mod Indexes
 pub mod Judging
+pub mod Below
+pub mod Numbers
+pub mod FromTheTop

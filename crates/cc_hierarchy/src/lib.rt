@@ -1,19 +1,27 @@
-//! The classes of a file judged: none and no member defined twice, each with a superclass, none above itself.
+//! The classes of a file: judged, numbered, and in order from the topmost down.
 #![tactic(auto)]
 
 mod above;
+mod above_built_in;
 mod built_in;
+mod classes;
 mod components;
 mod cycles;
 mod definitions;
 mod duplicates;
 mod judge;
+mod kinds;
 mod members;
 mod names;
+mod numbers;
+mod order;
 mod repeats;
 mod search;
+mod sources;
 mod superclasses;
 
 pub use built_in::{is_built_in, spells};
+pub use classes::outlines;
 pub use definitions::Definitions;
 pub use judge::judge_classes;
+pub use order::{classes_lead, from_the_top};

@@ -2,7 +2,7 @@
 
 ghost use Rattle.std.specs.Prelude.{◌≡◌, ◌<◌, ◌↔◌, ◌^◌, ◌==◌, length, slice_index, IsTrue, IfOk, MatchOption};
 ghost use Rattle.cc_meaning.specs.BuiltIn.{string_name, string_builder_name};
-ghost use Rattle.cc_meaning_file.specs.Descriptors.{begins_with};
+ghost use Rattle.cc_meaning_dex.specs.Descriptors.{begins_with};
 ghost use Rattle.cc_meaning_program.specs.Definitions.{is_interface, IsInterface};
 ghost use Rattle.cc_meaning_program.specs.ClassFaults.{HasNoSuperclass, IsClosed, LacksSuperclass, NoneIs};
 ghost use Rattle.cc_hierarchy.specs.Indexes.{Indexes};

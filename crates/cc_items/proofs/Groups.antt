@@ -4,7 +4,7 @@ use Rattle.std.specs.Prelude.{nat_le, nat_lt, if◌then◌else◌}
 use Rattle.std.proofs.lemmas.Bool.{lt-ltb, le-ltb}
 use Rattle.std.proofs.lemmas.Nat.{div_below}
 use Rattle.std.proofs.Math.Nat.{pow-suc}
-use Rattle.cc_meaning_building.specs.Forms.{uleb_form, uleb_within, sleb_within}
+use Rattle.cc_meaning_builder.specs.Forms.{uleb_form, uleb_within, sleb_within}
 
 -- the groups so far, and what is left in at most so many groups and one more, are the whole
 pub record UlebLeft (bytes : List ℕ) (rest whole : ℕ) : Type 0 where

@@ -9,9 +9,9 @@ use Rattle.cc_meaning.specs.declared.file.RawCatch.{RawCatch}
 use Rattle.cc_meaning.specs.declared.file.RawField.{RawField}
 use Rattle.cc_meaning.specs.declared.file.RawTry.{RawTry}
 use Rattle.cc_meaning.specs.declared.program.StaticValue.{StaticValue}
-use Rattle.cc_meaning_file.specs.Mutf8.{mutf8_bytes, unit_form}
-use Rattle.cc_meaning_classes.specs.declared.items.StatedMethod.{StatedMethod}
-use Rattle.cc_meaning_building.specs.Forms.{any_takes_all, each_value_form, fields_form, handler_form, methods_form, takes_all, tries_form, typed_count, u16_form, u32_form, uleb_form, value_form}
+use Rattle.cc_meaning_dex.specs.Mutf8.{mutf8_bytes, unit_form}
+use Rattle.cc_meaning_dex.specs.declared.items.StatedMethod.{StatedMethod}
+use Rattle.cc_meaning_builder.specs.Forms.{any_takes_all, each_value_form, fields_form, handler_form, methods_form, takes_all, tries_form, typed_count, u16_form, u32_form, uleb_form, value_form}
 use Rattle.cc_items.specs.Listed.{kind_at, try_form}
 use Rattle.cc_items.proofs.Chosen.{next}
 use Rattle.cc_items.proofs.Widths.{low_form}

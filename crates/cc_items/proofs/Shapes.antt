@@ -6,9 +6,9 @@ use lib.Signed.{mag}
 use mir.Val.{SFits, hbits}
 use Rattle.std.proofs.lemmas.Bool.{cases_lt, lt-ltb, le-ltb, le-leb, lt-leb, ne_eqb}
 use Rattle.cc_meaning.specs.declared.program.StaticValue.TheVariants as static
-use Rattle.cc_meaning_classes.specs.declared.items.ValueKind.{ValueKind}
-use Rattle.cc_meaning_classes.specs.declared.items.ValueKind.TheVariants as kinds
-use Rattle.cc_meaning_building.specs.Forms.{is_unit, is_within, little_form, signed_form, u32_form, value_form}
+use Rattle.cc_meaning_dex.specs.declared.items.ValueKind.{ValueKind}
+use Rattle.cc_meaning_dex.specs.declared.items.ValueKind.TheVariants as kinds
+use Rattle.cc_meaning_builder.specs.Forms.{is_unit, is_within, little_form, signed_form, u32_form, value_form}
 
 pub long_is : (kind : Option ValueKind) (n : ℤ) → value_form kind (static.Long n) ≡ 230 ∷ signed_form 8 n
 unfolding value_form

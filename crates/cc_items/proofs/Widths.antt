@@ -5,7 +5,7 @@ use Rattle.std.specs.Prelude.{ℤ, pos, negsuc}
 use mir.Val.{SFits}
 use Rattle.std.proofs.lemmas.Bool.{le-ltb}
 use Rattle.std.proofs.Math.Nat.{pow-suc, div-div-eq-div-mul}
-use Rattle.cc_meaning_building.specs.Forms.{little_form, signed_form, u16_form, u32_form, wrapped}
+use Rattle.cc_meaning_builder.specs.Forms.{little_form, signed_form, u16_form, u32_form, wrapped}
 
 pair : (a b c d : ℕ) → a ≡ c → b ≡ d → a ∷ b ∷ [] ≡ c ∷ d ∷ []
 pair a b c d p q = cc

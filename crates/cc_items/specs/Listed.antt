@@ -3,10 +3,10 @@ use Rattle.std.specs.Prelude.{ℕ, ◌-◌, Bool, if◌then◌else◌, List, ◌
 use Rattle.cc_meaning.specs.declared.file.Ids.{Ids}
 use Rattle.cc_meaning.specs.declared.file.RawField.{RawField}
 use Rattle.cc_meaning.specs.declared.file.RawTry.{RawTry}
-use Rattle.cc_meaning_classes.specs.declared.items.StatedMethod.{StatedMethod}
-use Rattle.cc_meaning_classes.specs.declared.items.ValueKind.{ValueKind}
-use Rattle.cc_meaning_classes.specs.Values.{field_kind}
-use Rattle.cc_meaning_building.specs.Forms.{direct_methods, instance_fields, static_fields, u16_form, u32_form, virtual_methods}
+use Rattle.cc_meaning_dex.specs.declared.items.StatedMethod.{StatedMethod}
+use Rattle.cc_meaning_dex.specs.declared.items.ValueKind.{ValueKind}
+use Rattle.cc_meaning_dex.specs.Values.{field_kind}
+use Rattle.cc_meaning_builder.specs.Forms.{direct_methods, instance_fields, static_fields, u16_form, u32_form, virtual_methods}
 
 -- the fields that are static, or those that aren't
 abbrev pub fields_of : Bool → List RawField → List RawField

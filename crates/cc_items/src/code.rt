@@ -1,7 +1,7 @@
 //! Code items.
 
 ghost use Rattle.std.specs.Prelude.{◌≡◌, ◌++◌, length, OnOk};
-ghost use Rattle.cc_meaning_building.specs.Forms.{code_form, code_head, tries_form, tries_part, uleb_form};
+ghost use Rattle.cc_meaning_builder.specs.Forms.{code_form, code_head, tries_form, tries_part, uleb_form};
 ghost use Rattle.cc_items.specs.Listed.{try_form};
 
 use crate::handlers::{handler_size, put_handlers};
@@ -17,7 +17,7 @@ use cc_meaning::lists::Bytes;
 /// # Errors
 ///
 /// `Memory`: there is no memory, or there are 2 ^ 32 units, tries or handlers of a try or more.
-#[tactic(auto, unfolding(cc_meaning_building::specs::Forms::code_form))]
+#[tactic(auto, unfolding(cc_meaning_builder::specs::Forms::code_form))]
 pub fn put_code(out: &mut Bytes, outs: u16, code: &RawCode) -> Result<(), Memory>
     ensures { OnOk result (out.new ≡ out.old ++ code_form outs code.now) }
 {

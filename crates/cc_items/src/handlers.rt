@@ -2,7 +2,7 @@
 
 ghost use Rattle.std.specs.Prelude.{◌≡◌, ◌++◌, ◌≤◌, ◌%◌, ◌^◌, length, IfOk, OnOk};
 ghost use Rattle.std.specs.List.{flat_map};
-ghost use Rattle.cc_meaning_building.specs.Forms.{any_takes_all, catch_form, handler_form, handlers_form, sleb_form, typed_count};
+ghost use Rattle.cc_meaning_builder.specs.Forms.{any_takes_all, catch_form, handler_form, handlers_form, sleb_form, typed_count};
 
 use crate::numbers::{Leb, put_count, put_uleb, short, sleb, uleb};
 use cc_meaning::fault::Memory;
@@ -53,7 +53,7 @@ fn put_catches(out: &mut Bytes, catches: &[RawCatch]) -> Result<(), Memory>
 
 /// Puts the handler of a try.
 /// Source: Dalvik Executable format, section encoded_catch_handler format.
-#[tactic(auto, unfolding(cc_meaning_building::specs::Forms::handler_form))]
+#[tactic(auto, unfolding(cc_meaning_builder::specs::Forms::handler_form))]
 fn put_handler(out: &mut Bytes, catches: &[RawCatch]) -> Result<(), Memory>
     ensures { OnOk result (out.new ≡ out.old ++ handler_form catches.now) }
 {
@@ -94,7 +94,7 @@ fn catch_size(catch: &RawCatch) -> usize
 }
 
 /// How many bytes the handler of a try takes, modulo 2 ^ 16.
-#[tactic(auto, unfolding(cc_meaning_building::specs::Forms::handler_form))]
+#[tactic(auto, unfolding(cc_meaning_builder::specs::Forms::handler_form))]
 pub fn handler_size(catches: &[RawCatch]) -> Result<u16, Memory>
     ensures { IfOk result (λ size. size ≡ length (handler_form catches.now) % 2 ^ 16) }
 {

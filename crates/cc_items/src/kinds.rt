@@ -3,11 +3,11 @@
 ghost use Rattle.std.specs.Prelude.{◌≡◌, MatchOption, Some, None};
 ghost use Rattle.std.specs.Str.{bytes_eq};
 ghost use Rattle.cc_meaning.specs.BuiltIn.{string_name};
-ghost use Rattle.cc_meaning_classes.specs.Rows.{descriptor_of};
-ghost use Rattle.cc_meaning_classes.specs.Values.{field_kind, kind_of};
+ghost use Rattle.cc_meaning_dex.specs.Rows.{descriptor_of};
+ghost use Rattle.cc_meaning_dex.specs.Values.{field_kind, kind_of};
 
 use cc_meaning::file::Ids;
-use cc_meaning_classes::ValueKind;
+use cc_meaning_dex::ValueKind;
 
 /// The descriptor of the class of strings, `Ljava/lang/String;`.
 const STRING: [u16; 18] = [
@@ -31,7 +31,7 @@ fn is_string(units: &[u16]) -> bool
 }
 
 /// What a static value of a field of this type may be.
-#[tactic(auto, unfolding(cc_meaning_classes::specs::Values::kind_of))]
+#[tactic(auto, unfolding(cc_meaning_dex::specs::Values::kind_of))]
 fn kind_of(units: &[u16]) -> Option<ValueKind>
     ensures { result ≡ kind_of units.now }
 {

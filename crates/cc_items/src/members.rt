@@ -1,14 +1,14 @@
 //! Class data.
 
 ghost use Rattle.std.specs.Prelude.{◌≡◌, ◌++◌, length, OnOk};
-ghost use Rattle.cc_meaning_building.specs.Forms.{class_data_form, fields_form, methods_form};
+ghost use Rattle.cc_meaning_builder.specs.Forms.{class_data_form, fields_form, methods_form};
 ghost use Rattle.cc_items.specs.Listed.{fields_of, methods_of};
 
 use crate::numbers::{put_count, put_uleb};
 use cc_meaning::fault::Memory;
 use cc_meaning::file::{RawField, RawFields};
 use cc_meaning::lists::Bytes;
-use cc_meaning_classes::StatedMethod;
+use cc_meaning_dex::StatedMethod;
 
 /// Puts the class data item of these members behind the bytes that are there: the static fields, the instance fields, the direct methods and the virtual
 /// ones, each list in the order in which they are given. A member has its row by how far that lies behind the row of the one before it, 0 where it lies
@@ -18,7 +18,7 @@ use cc_meaning_classes::StatedMethod;
 /// # Errors
 ///
 /// `Memory`: there is no memory, or a list has 2 ^ 32 members or more.
-#[tactic(auto, unfolding(cc_meaning_building::specs::Forms::class_data_form))]
+#[tactic(auto, unfolding(cc_meaning_builder::specs::Forms::class_data_form))]
 pub fn put_members(
     out: &mut Bytes,
     fields: &RawFields,

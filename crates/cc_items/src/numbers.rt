@@ -2,7 +2,7 @@
 
 ghost use Rattle.std.specs.Prelude.{◌≡◌, ◌≤◌, ◌++◌, ◌-◌, if◌then◌else◌, nat_le, nat_lt, IfOk, OnOk};
 ghost use Rattle.std.specs.List.{flat_map};
-ghost use Rattle.cc_meaning_building.specs.Forms.{u16_form, u32_form, uleb_form, sleb_form};
+ghost use Rattle.cc_meaning_builder.specs.Forms.{u16_form, u32_form, uleb_form, sleb_form};
 
 use arrayvec::ArrayVec;
 use cc_meaning::fault::Memory;
@@ -19,7 +19,7 @@ const GROUPS_BEFORE: usize = 4;
 /// # Errors
 ///
 /// `Memory`: there is no memory.
-#[tactic(auto, unfolding(cc_meaning_building::specs::Forms::little_form))]
+#[tactic(auto, unfolding(cc_meaning_builder::specs::Forms::little_form))]
 pub fn put_u16(out: &mut Bytes, n: u16) -> Result<(), Memory>
     ensures { OnOk result (out.new ≡ out.old ++ u16_form n) }
 {
@@ -32,7 +32,7 @@ pub fn put_u16(out: &mut Bytes, n: u16) -> Result<(), Memory>
 /// # Errors
 ///
 /// `Memory`: there is no memory.
-#[tactic(auto, unfolding(cc_meaning_building::specs::Forms::little_form))]
+#[tactic(auto, unfolding(cc_meaning_builder::specs::Forms::little_form))]
 pub fn put_u32(out: &mut Bytes, n: u32) -> Result<(), Memory>
     ensures { OnOk result (out.new ≡ out.old ++ u32_form n) }
 {

@@ -2,8 +2,8 @@
 
 ghost use Rattle.std.specs.Prelude.{◌≡◌, ◌++◌, OnOk};
 ghost use Rattle.std.specs.List.{flat_map};
-ghost use Rattle.cc_meaning_file.specs.Mutf8.{unit_form, mutf8_bytes};
-ghost use Rattle.cc_meaning_building.specs.Forms.{text_form, types_form, u16_form, u32_form};
+ghost use Rattle.cc_meaning_dex.specs.Mutf8.{unit_form, mutf8_bytes};
+ghost use Rattle.cc_meaning_builder.specs.Forms.{text_form, types_form, u16_form, u32_form};
 
 use crate::numbers::{put_count, put_long_count, put_low};
 use cc_meaning::fault::Memory;
@@ -36,7 +36,7 @@ fn put_forms(out: &mut Bytes, units: &[u16]) -> Result<(), Memory>
 
 /// Puts the form of a unit in MUTF-8: of 0001 to 007f one byte, of 0000 and 0080 to 07ff two, of all others three.
 /// Source: Dalvik Executable format, section MUTF-8 (Modified UTF-8) Encoding.
-#[tactic(auto, unfolding(cc_meaning_file::specs::Mutf8::unit_form))]
+#[tactic(auto, unfolding(cc_meaning_dex::specs::Mutf8::unit_form))]
 fn put_form(out: &mut Bytes, unit: u16) -> Result<(), Memory>
     ensures { OnOk result (out.new ≡ out.old ++ unit_form unit) }
 {

@@ -2,8 +2,8 @@
 
 ghost use Rattle.std.specs.Prelude.{◌≡◌, ◌++◌, ◌∷◌, Some, OnOk};
 ghost use Rattle.cc_meaning.specs.declared.program.StaticValue.TheVariants as static;
-ghost use Rattle.cc_meaning_classes.specs.declared.items.ValueKind.TheVariants as kinds;
-ghost use Rattle.cc_meaning_building.specs.Forms.{each_value_form, signed_form, u32_form, value_form, values_form};
+ghost use Rattle.cc_meaning_dex.specs.declared.items.ValueKind.TheVariants as kinds;
+ghost use Rattle.cc_meaning_builder.specs.Forms.{each_value_form, signed_form, u32_form, value_form, values_form};
 ghost use Rattle.cc_items.specs.Listed.{kind_at};
 
 use crate::kinds::field_kind;
@@ -12,7 +12,7 @@ use cc_meaning::fault::Memory;
 use cc_meaning::file::{Ids, RawFields};
 use cc_meaning::lists::Bytes;
 use cc_meaning::program::{StaticValue, StaticValues};
-use cc_meaning_classes::ValueKind;
+use cc_meaning_dex::ValueKind;
 
 /// The first bytes of values: a type in the lower five bits, and an argument in the upper three, which of a number is its size in bytes less one.
 const BYTE: u8 = 0x00;
@@ -40,7 +40,7 @@ const TRUE: u8 = 0x1f + (1 << 5);
 /// # Errors
 ///
 /// `Memory`: there is no memory, or there are 2 ^ 32 values or more.
-#[tactic(auto, unfolding(cc_meaning_building::specs::Forms::values_form))]
+#[tactic(auto, unfolding(cc_meaning_builder::specs::Forms::values_form))]
 pub fn put_values(
     out: &mut Bytes,
     ids: &Ids,

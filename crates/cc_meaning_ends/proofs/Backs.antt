@@ -9,7 +9,7 @@ use Rattle.cc_meaning.specs.declared.program.DexType.{DexType}
 use Rattle.cc_meaning.specs.declared.program.Program.{Program}
 use Rattle.cc_meaning.specs.declared.image.RunImage.{RunImage}
 use Rattle.cc_meaning.specs.declared.image.BackImage.{BackImage}
-use Rattle.cc_meaning_lines.specs.Travel.{stopped_line}
+use Rattle.cc_output.specs.Travel.{stopped_line}
 use Rattle.cc_meaning_images.specs.Reading.{Got, got, wrong, reading, number, byte, none, values, result, ending_by, ending, BackHead, back_head, statuses_since, static_kinds, back_behind, back_fits, result_of, fitting, whole, read_back}
 
 -- it holds of what was read, if anything was

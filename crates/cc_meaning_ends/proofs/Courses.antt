@@ -11,7 +11,7 @@ use Rattle.cc_meaning.specs.declared.image.RunImage.{RunImage}
 use Rattle.cc_meaning.specs.declared.fault.ImageFault.{ImageFault}
 use Rattle.cc_meaning.specs.declared.image.BackImage.{BackImage}
 use Rattle.cc_meaning.specs.declared.program.Program.{Program}
-use Rattle.cc_meaning_lines.specs.Travel.{stopped_line, ended_line}
+use Rattle.cc_output.specs.Travel.{stopped_line, ended_line}
 use Rattle.cc_meaning_run.specs.Acts.{less_by}
 use Rattle.cc_meaning_run.specs.Instructions.{line_of}
 use Rattle.cc_meaning_images.specs.Reading.{read_back}

@@ -3,7 +3,7 @@ use Rattle.std.specs.Prelude.{◌≡◌, ℕ, Bool, List, [], Some, IsSome}
 use Rattle.cc_meaning.specs.declared.frame.Frame.{Frame}
 use Rattle.cc_meaning.specs.declared.report.Limits.{Limits}
 use Rattle.cc_meaning.specs.declared.report.Report.{Report}
-use Rattle.cc_meaning_lines.specs.Travel.{ended_line}
+use Rattle.cc_output.specs.Travel.{ended_line}
 use Rattle.cc_meaning_plain.specs.declared.plain.Plain.{Plain}
 use Rattle.cc_meaning_plain.specs.Laws.{AreBytes}
 use Rattle.cc_meaning_plain.specs.Plain.{IsPlain}

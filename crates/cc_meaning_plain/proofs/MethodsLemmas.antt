@@ -1,7 +1,7 @@
 -- The methods of a plain file, told one by one.
 use Rattle.std.proofs.Common.{◌≡◌, ◌↔◌, inl, inr, ℕ, ◌+◌, ◌*◌, List, [], ◌∷◌, ◌++◌, Option, Some, None, codes, get_or, refl, ap, subst, sym, ◌∙◌, arith}
 use Rattle.cc_meaning.specs.Order.{IsRising}
-use Rattle.cc_meaning_file.specs.Numbers.{u16_at, u32_at}
+use Rattle.cc_meaning_dex.specs.Numbers.{u16_at, u32_at}
 use Rattle.cc_meaning_plain.specs.declared.table.Table.TheVariants.{Methods, Prototypes}
 use Rattle.cc_meaning_plain.specs.declared.plain.PlainInsn.{PlainInsn}
 use Rattle.cc_meaning_plain.specs.declared.plain.PlainInsn.TheVariants.{SgetOut, Const4, AddInt2Addr, AddIntLit8, InvokePrintln, CallFunction}

@@ -6,8 +6,8 @@ use Rattle.std.specs.declared.cmp.Ordering.TheVariants.{Less, Equal}
 use Rattle.std.proofs.lemmas.Cmp.{nat_list_cmp_total, tied_itself}
 use Rattle.std.proofs.lemmas.Option.{get_or_from_slice_get, slice_get_within}
 use Rattle.cc_meaning.specs.Order.{IsRising}
-use Rattle.cc_meaning_file.specs.Numbers.{u16_at, u32_at}
-use Rattle.cc_meaning_file.specs.Laws.{OneText}
+use Rattle.cc_meaning_dex.specs.Numbers.{u16_at, u32_at}
+use Rattle.cc_meaning_dex.specs.TextLaws.{OneText}
 use Rattle.cc_meaning_plain.specs.declared.table.Table.TheVariants.{Texts, Methods}
 use Rattle.cc_meaning_plain.specs.declared.plain.PlainInsn.{PlainInsn}
 use Rattle.cc_meaning_plain.specs.declared.plain.PlainInsn.TheVariants.{SgetOut, Const4, AddInt2Addr, AddIntLit8, InvokePrintln, CallFunction}

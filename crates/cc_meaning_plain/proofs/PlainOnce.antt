@@ -2,9 +2,9 @@
 use Rattle.std.proofs.Common.{◌≡◌, ◌↔◌, ℕ, ◌+◌, List, [], ◌∷◌, Some, length, map, refl, sym, ap, subst, ◌∙◌, arith}
 use Rattle.std.specs.List.Sorted.{IsPermutation}
 use Rattle.std.proofs.lemmas.List.Sorted.{IsPermutation-sym, IsPermutation-trans}
-use Rattle.cc_meaning_file.specs.Numbers.{u32_at}
-use Rattle.cc_meaning_file.specs.Leb128.{SpellsUleb}
-use Rattle.cc_meaning_file.specs.Laws.{OneUleb, OneText}
+use Rattle.cc_meaning_dex.specs.Numbers.{u32_at}
+use Rattle.cc_meaning_dex.specs.Leb128.{SpellsUleb}
+use Rattle.cc_meaning_dex.specs.TextLaws.{OneUleb, OneText}
 use Rattle.cc_meaning_plain.specs.declared.table.Table.TheVariants.{Texts, Types}
 use Rattle.cc_meaning_plain.specs.declared.plain.Member.{Member}
 use Rattle.cc_meaning_plain.specs.declared.plain.Last.{Last}

@@ -1,6 +1,6 @@
 -- The code of a plain file's methods, unit by unit (Dalvik Executable format, `code_item`; Dalvik bytecode, instruction formats).
 use Rattle.std.specs.Prelude.{◌≡◌, ◌≢◌, ℕ, ◌+◌, ◌-◌, ◌*◌, ◌/◌, ◌%◌, ◌<◌, ◌≤◌, ℤ, pos, ◌-ℤ◌, nat_lt, if◌then◌else◌, List, [], ◌∷◌, ◌++◌, Some, slice_get, slice_set, replicate}
-use Rattle.cc_meaning_file.specs.Numbers.{u16_at, u32_at, Within}
+use Rattle.cc_meaning_dex.specs.Numbers.{u16_at, u32_at, Within}
 use Rattle.cc_meaning_plain.specs.declared.plain.PlainInsn.{PlainInsn}
 use Rattle.cc_meaning_plain.specs.declared.plain.PlainInsn.TheVariants.{SgetOut, Const4, AddInt2Addr, AddIntLit8, InvokePrintln, CallFunction}
 use Rattle.cc_meaning_plain.specs.declared.plain.Last.{Last}

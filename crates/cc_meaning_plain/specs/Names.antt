@@ -1,7 +1,7 @@
 -- What the rows of a file name: texts, types, fields and methods, each row at its own offset.
 use Rattle.std.specs.Prelude.{◌≡◌, ◌≢◌, ℕ, ◌+◌, List, ◌++◌, codes}
-use Rattle.cc_meaning_file.specs.Numbers.{u16_at, u32_at, Within}
-use Rattle.cc_meaning_file.specs.Texts.{SpellsText}
+use Rattle.cc_meaning_dex.specs.Numbers.{u16_at, u32_at, Within}
+use Rattle.cc_meaning_dex.specs.Texts.{SpellsText}
 use Rattle.cc_meaning_plain.specs.declared.table.Table.TheVariants.{Texts, Types, Prototypes, Fields, Methods}
 use Rattle.cc_meaning_plain.specs.Tables.{row_at, IsRow}
 

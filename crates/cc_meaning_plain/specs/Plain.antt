@@ -2,8 +2,8 @@
 use Rattle.std.specs.Prelude.{◌≡◌, ◌≢◌, ◌⊎◌, ℕ, ◌+◌, ◌≤◌, List, [], ◌∷◌, ◌++◌, length, map, All, bit_and, codes}
 use Rattle.std.specs.List.Sorted.{IsPermutation}
 use Rattle.cc_meaning.specs.Order.{IsRising}
-use Rattle.cc_meaning_file.specs.Numbers.{u32_at}
-use Rattle.cc_meaning_file.specs.Leb128.{SpellsUleb}
+use Rattle.cc_meaning_dex.specs.Numbers.{u32_at}
+use Rattle.cc_meaning_dex.specs.Leb128.{SpellsUleb}
 use Rattle.cc_meaning_plain.specs.declared.table.Table.TheVariants.{Classes}
 use Rattle.cc_meaning_plain.specs.declared.plain.Member.{Member}
 use Rattle.cc_meaning_plain.specs.declared.plain.PlainCode.{PlainCode}

@@ -1,6 +1,6 @@
 -- The header of a file and its tables (Dalvik Executable format, `header_item`), each item at its own offset.
 use Rattle.std.specs.Prelude.{◌≡◌, ◌⊎◌, ℕ, ◌+◌, ◌*◌, ◌≤◌, ◌<◌, List, [], ◌∷◌, length, take}
-use Rattle.cc_meaning_file.specs.Numbers.{u32_at, Within}
+use Rattle.cc_meaning_dex.specs.Numbers.{u32_at, Within}
 use Rattle.cc_meaning_plain.specs.declared.table.Table.{Table}
 use Rattle.cc_meaning_plain.specs.declared.table.Table.TheVariants.{Texts, Types, Prototypes, Fields, Methods, Classes}
 

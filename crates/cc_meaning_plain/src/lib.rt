@@ -8,7 +8,7 @@ ghost use Rattle.cc_meaning_plain.specs.Worked.{TakesSix, TakesSixWords, ComesTo
 mod plain;
 mod table;
 
-use cc_meaning_file::{one_text, one_uleb};
+use cc_meaning_dex::{one_text, one_uleb};
 pub use plain::{
     Held, Last, Member, Plain, PlainCode, PlainFunction, PlainFunctions, PlainInsn, PlainInsns,
 };

@@ -3,9 +3,9 @@ use Rattle.std.proofs.Common.{◌≡◌, ℕ, zero, suc, ◌+◌, ◌<◌, ◌^�
 use Rattle.std.specs.Prelude.{slice_get}
 use Rattle.cc_meaning.specs.declared.file.Ids.{Ids}
 use Rattle.cc_meaning.specs.declared.file.RawCode.{RawCode}
-use Rattle.cc_meaning_file.specs.Numbers.{u16_at, u32_at}
-use Rattle.cc_meaning_classes.specs.Tries.{HasCode}
-use Rattle.cc_meaning_classes.specs.Classes.{EachPair, SpellsClass, SpellsSoundMethod}
+use Rattle.cc_meaning_dex.specs.Numbers.{u16_at, u32_at}
+use Rattle.cc_meaning_dex.specs.Tries.{HasCode}
+use Rattle.cc_meaning_dex.specs.Classes.{EachPair, SpellsClass, SpellsSoundMethod}
 use Rattle.cc_meaning_program.specs.CodeSizes.{SpelledCodeIsSmall}
 
 word_below : (file : List ℕ) (at : ℕ) → ((place : ℕ) → get_or file place 0 < 256) → u32_at file at < 2 ^ 32

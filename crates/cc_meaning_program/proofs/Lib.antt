@@ -5,3 +5,14 @@ pub mod BodyRuns
 pub mod BodyFaultLaws
 pub mod CodeSizeLaws
 pub mod ListedTypes
+pub mod Once
+pub mod Splitting
+pub mod Leading
+pub mod Alike
+pub mod SameNames
+pub mod SameCode
+pub mod SameMembers
+pub mod SameLists
+pub mod SameClasses
+pub mod OneProgram
+pub mod Files

@@ -6,7 +6,7 @@ use Rattle.std.proofs.lemmas.List.{get_or_default}
 use Rattle.cc_meaning.specs.declared.program.Base.{Base}
 use Rattle.cc_meaning.specs.declared.program.Base.TheVariants as base
 use Rattle.cc_meaning.specs.declared.program.DexType.{DexType}
-use Rattle.cc_meaning_file.specs.Descriptors.{dims_of, names_class, is_primitive, dimensions, IsValue, IsClassDescriptor}
+use Rattle.cc_meaning_dex.specs.Descriptors.{dims_of, names_class, is_primitive, dimensions, IsValue, IsClassDescriptor}
 use Rattle.cc_meaning_program.specs.Named.{type_name}
 use Rattle.cc_meaning_program.specs.ClassNames.{base_name, element}
 use Rattle.cc_meaning_program.specs.References.{single, double}

@@ -9,7 +9,7 @@ use Rattle.cc_meaning.specs.declared.file.RawClass.{RawClass}
 use Rattle.cc_meaning.specs.declared.file.RawField.{RawField}
 use Rattle.cc_meaning.specs.declared.file.RawMethod.{RawMethod}
 use Rattle.cc_meaning.specs.BuiltIn.{is_built_in, string_name, string_builder_name}
-use Rattle.cc_meaning_file.specs.Descriptors.{begins_with}
+use Rattle.cc_meaning_dex.specs.Descriptors.{begins_with}
 use Rattle.cc_meaning_program.specs.Named.{type_name, field_member, method_member}
 use Rattle.cc_meaning_program.specs.Definitions.{Defines, IsInterface, IsAbove}
 

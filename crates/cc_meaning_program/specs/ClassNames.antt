@@ -3,7 +3,7 @@ use Rattle.std.specs.Prelude.{◌≡◌, ◌↔◌, ℕ, ◌<◌, true, List, le
 use Rattle.cc_meaning.specs.declared.file.Ids.{Ids}
 use Rattle.cc_meaning.specs.BuiltIn.{is_built_in}
 use Rattle.cc_meaning.specs.Order.{IsRising}
-use Rattle.cc_meaning_file.specs.Descriptors.{dims_of, names_class, names_reference}
+use Rattle.cc_meaning_dex.specs.Descriptors.{dims_of, names_class, names_reference}
 use Rattle.cc_meaning_program.specs.Named.{type_name}
 
 -- what stands behind the `[` of a descriptor

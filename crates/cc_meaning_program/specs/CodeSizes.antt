@@ -4,7 +4,7 @@ use Rattle.cc_meaning.specs.declared.file.Ids.{Ids}
 use Rattle.cc_meaning.specs.declared.file.RawClass.{RawClass}
 use Rattle.cc_meaning.specs.declared.file.RawCode.{RawCode}
 use Rattle.cc_meaning.specs.declared.file.RawMethod.{RawMethod}
-use Rattle.cc_meaning_classes.specs.Classes.{SpellsClasses}
+use Rattle.cc_meaning_dex.specs.Classes.{SpellsClasses}
 
 -- a method's code, if it has any, has fewer than 2 ^ 32 units
 abbrev pub HasFewUnits : RawMethod → Type 0

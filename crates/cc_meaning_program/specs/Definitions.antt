@@ -2,7 +2,7 @@
 use Rattle.std.specs.Prelude.{◌≡◌, ◌⊎◌, ℕ, Bool, true, List, Contains, slice_get, Some}
 use Rattle.cc_meaning.specs.declared.file.ClassRow.{ClassRow}
 use Rattle.cc_meaning.specs.declared.file.Ids.{Ids}
-use Rattle.cc_meaning_classes.specs.CodeItems.{has_flag}
+use Rattle.cc_meaning_dex.specs.CodeItems.{has_flag}
 use Rattle.cc_meaning_program.specs.Named.{type_name}
 
 -- a definition, by its number, is of the class of this name

@@ -5,7 +5,7 @@ use Rattle.cc_meaning.specs.declared.file.Ids.{Ids}
 use Rattle.cc_meaning.specs.declared.file.FieldRow.{FieldRow}
 use Rattle.cc_meaning.specs.declared.file.MethodRow.{MethodRow}
 use Rattle.cc_meaning.specs.declared.file.ProtoRow.{ProtoRow}
-use Rattle.cc_meaning_classes.specs.Rows.{descriptor_of}
+use Rattle.cc_meaning_dex.specs.Rows.{descriptor_of}
 
 -- the text of a row of texts
 unfoldable pub text_of : Ids → ℕ → List ℕ

@@ -5,7 +5,7 @@ use Rattle.cc_meaning.specs.declared.program.Base.{Base}
 use Rattle.cc_meaning.specs.declared.program.Base.TheVariants as base
 use Rattle.cc_meaning.specs.declared.program.DexType.{DexType}
 use Rattle.cc_meaning.specs.Order.{IsRising}
-use Rattle.cc_meaning_file.specs.Descriptors.{dims_of, names_class, IsValueDescriptor}
+use Rattle.cc_meaning_dex.specs.Descriptors.{dims_of, names_class, IsValueDescriptor}
 use Rattle.cc_meaning_program.specs.Named.{type_name}
 use Rattle.cc_meaning_program.specs.ClassNames.{base_name, AreClassNames}
 use Rattle.cc_meaning_program.specs.References.{IsFloating}

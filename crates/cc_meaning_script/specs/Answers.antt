@@ -1,7 +1,5 @@
 -- What a listed answer says for a method of a program.
-use Rattle.std.specs.Prelude.{ℕ, zero, suc, ℤ, pos, negsuc, ◌==◌, ◌&&◌, ◌||◌, Bool, true, false, List, length, chars, Option, Some, None, option_and_then, option_map, unwrap_or, slice_get, int_le, if◌then◌else◌}
-use Rattle.std.specs.List.{flat_map}
-use Rattle.std.specs.Char.Escape.{encode_utf16}
+use Rattle.std.specs.Prelude.{ℕ, ℤ, pos, negsuc, ◌==◌, ◌&&◌, ◌||◌, Bool, true, false, List, Option, Some, None, option_map, unwrap_or, slice_get, int_le, if◌then◌else◌}
 use Rattle.std.specs.Str.{bytes_eq}
 use Rattle.cc_meaning.specs.declared.program.Base.{Base}
 use Rattle.cc_meaning.specs.declared.program.Base.TheVariants as base
@@ -14,31 +12,16 @@ use Rattle.cc_meaning.specs.declared.report.Answer.{Answer}
 use Rattle.cc_meaning.specs.declared.report.Answer.TheVariants as answer
 use Rattle.cc_meaning.specs.BuiltIn.{object_name, string_name, is_built_in_throwable}
 use Rattle.cc_meaning.specs.Lookup.{class_named}
+use Rattle.cc_units.specs.Units.{units_of}
+use Rattle.cc_meaning_typing.specs.Types.{is_loose, fits_class}
 use Rattle.cc_meaning_script.specs.declared.listed.Listed.{Listed}
 use Rattle.cc_meaning_script.specs.declared.listed.Listed.TheVariants as listed
-
--- the units of UTF-16 of a text in UTF-8
-abbrev pub units_of : List ℕ → List ℕ
-units_of text = flat_map encode_utf16 (chars text)
 
 -- the number of the class whose name a text is
 abbrev pub class_listed : Program → List ℕ → Option ℕ
 class_listed p name = class_named (units_of name) p
 
 -- ---- classes
-
--- an outside class whose superclass is Object
-abbrev pub is_plain_outside : ClassKind → Bool
-is_plain_outside kind.Outside = true
-is_plain_outside _ = false
-
-abbrev pub is_file : ClassKind → Bool
-is_file kind.File = true
-is_file _ = false
-
--- A loose type is held as Object, and each reference fits it: Object, an interface of the file, an outside class that is no exception.
-abbrev pub is_loose : Class → Bool
-is_loose class = is_plain_outside class.kind || (is_file class.kind && class.is_interface) || bytes_eq class.name object_name
 
 abbrev pub is_outside : ClassKind → Bool
 is_outside kind.Outside = true
@@ -61,22 +44,12 @@ can_be_thrown class = is_outside_error class.kind || (is_built_in_kind class.kin
 abbrev pub holds_of : (Class → Bool) → Program → ℕ → Bool
 holds_of test p class = unwrap_or (option_map test (slice_get p.classes class)) false
 
-abbrev pub superclass_of : Program → ℕ → Option ℕ
-superclass_of p class = option_and_then (λ (c : Class). c.superclass) (slice_get p.classes class)
+abbrev pub is_text_class : Class → Bool
+is_text_class class = bytes_eq class.name string_name || bytes_eq class.name object_name
 
--- a class is another, or has it among its superclasses, as far as so many steps lead
-unfoldable pub is_below : Program → (steps : ℕ) → Option ℕ → ℕ → Bool
-is_below p steps None other = false
-is_below p zero (Some class) other = class == other
-is_below p (suc steps) (Some class) other = class == other || is_below p steps (superclass_of p class) other
-
--- an object of a class fits a declared class
-abbrev pub fits_class : Program → (object declared : ℕ) → Bool
-fits_class p object declared = holds_of is_loose p declared || is_below p (length p.classes) (Some object) declared
-
--- a text fits a declared class
-abbrev pub takes_text : Class → Bool
-takes_text class = is_loose class || bytes_eq class.name string_name
+-- a text fits String, Object and what each reference fits
+abbrev pub takes_text : Program → (declared : ℕ) → Bool
+takes_text p declared = is_loose p declared || holds_of is_text_class p declared
 
 -- ---- answers
 
@@ -108,7 +81,7 @@ instance_answer p declared (Some class) = when (holds_of (λ (c : Class). is_out
 
 abbrev pub object_answer : Program → (declared : ℕ) → Listed → Option Answer
 object_answer p declared listed.Null = Some answer.Null
-object_answer p declared (listed.Text text) = when (holds_of takes_text p declared) (answer.Text (units_of text))
+object_answer p declared (listed.Text text) = when (takes_text p declared) (answer.Text (units_of text))
 object_answer p declared (listed.Object name) = instance_answer p declared (class_listed p name)
 object_answer p declared _ = None
 

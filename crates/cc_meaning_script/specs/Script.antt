@@ -13,9 +13,10 @@ use Rattle.cc_meaning.specs.declared.script.Given.{Given}
 use Rattle.cc_meaning.specs.declared.script.Script.{Script}
 use Rattle.cc_meaning.specs.declared.script.ScriptClass.{ScriptClass}
 use Rattle.cc_meaning.specs.Lookup.{method_named}
+use Rattle.cc_units.specs.Units.{units_of}
 use Rattle.cc_meaning_script.specs.declared.listed.ListedAnswer.{ListedAnswer}
 use Rattle.cc_meaning_script.specs.declared.listed.ListedClass.{ListedClass}
-use Rattle.cc_meaning_script.specs.Answers.{units_of, class_listed, answer_for}
+use Rattle.cc_meaning_script.specs.Answers.{class_listed, answer_for}
 use Rattle.cc_meaning_script.specs.Listed.{capped, on_ok, then_all, listed_classes}
 
 -- ---- members

@@ -9,3 +9,16 @@ pub mod Worked
 pub mod StateJoin
 pub mod Typed
 pub mod WorkedTyping
+pub mod WorkedErrors
+pub mod ClassTests
+pub mod Reading
+pub mod Growing
+pub mod Width
+pub mod Closed
+pub mod Typings
+pub mod Covered
+pub mod Room
+pub mod Order
+pub mod FaultLaws
+pub mod Spreading
+pub mod Standing

@@ -1,5 +1,5 @@
 -- The classes above a class.
-use Rattle.std.specs.Prelude.{◌≡◌, ℕ, zero, suc, ◌<◌, length, Option, Some, None, slice_get, unwrap_or}
+use Rattle.std.specs.Prelude.{◌≡◌, ℕ, zero, suc, ◌<◌, ◌==◌, Bool, true, false, cond, length, Option, Some, None, slice_get, unwrap_or}
 use Rattle.cc_meaning.specs.declared.program.Class.{Class}
 use Rattle.cc_meaning.specs.declared.program.Program.{Program}
 use Rattle.cc_meaning.specs.BuiltIn.{object_name}
@@ -37,3 +37,12 @@ pub record IsHierarchy (program : Program) : Type 0 where
 pub data Inherits (program : Program) : ℕ → ℕ → Type 0 where
   itself : {class : ℕ} → Inherits program class class
   further : {class above ancestor : ℕ} → superclass_of program class ≡ Some above → Inherits program above ancestor → Inherits program class ancestor
+
+-- whether so many steps up from the first class, or fewer, lead to the second
+unfoldable pub climbs_to : Program → ℕ → (class ancestor : ℕ) → Bool
+climbs_to program zero class ancestor = class == ancestor
+climbs_to program (suc n) class ancestor = cond (class == ancestor) true (on_value (superclass_of program class) false (λ above. climbs_to program n above ancestor))
+
+-- the test of `Inherits`
+unfoldable pub has_ancestor : Program → (class ancestor : ℕ) → Bool
+has_ancestor program class ancestor = climbs_to program (length program.classes) class ancestor

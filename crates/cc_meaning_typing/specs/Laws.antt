@@ -1,15 +1,16 @@
 -- The laws of types, registers, states and rules.
-use Rattle.std.specs.Prelude.{◌≡◌, ◌↔◌, ◌⊎◌, ℕ, suc, ◌+◌, ◌<◌, ◌≤◌, length, Some, None}
+use Rattle.std.specs.Prelude.{◌≡◌, ◌↔◌, ◌⊎◌, IsTrue, ℕ, suc, ◌+◌, ◌<◌, ◌≤◌, length, Some, None}
 use Rattle.cc_meaning.specs.declared.instruction.Insn.{Insn}
 use Rattle.cc_meaning.specs.declared.program.Catch.{Catch}
 use Rattle.cc_meaning.specs.declared.program.DexType.{DexType}
 use Rattle.cc_meaning.specs.declared.program.Program.{Program}
 use Rattle.cc_meaning.specs.declared.program.RegType.{RegType}
+use Rattle.cc_meaning.specs.declared.program.RegType.TheVariants.{Reference}
 use Rattle.cc_meaning_typing.specs.declared.state.State.{State}
-use Rattle.cc_meaning_typing.specs.Hierarchy.{superclass_of, IsHierarchy}
-use Rattle.cc_meaning_typing.specs.Types.{object_type, IsBelow, next_above, least_above}
+use Rattle.cc_meaning_typing.specs.Hierarchy.{superclass_of, IsHierarchy, Inherits, has_ancestor}
+use Rattle.cc_meaning_typing.specs.Types.{class_type, object_type, IsBelow, next_above, least_above, fits_class}
 use Rattle.cc_meaning_typing.specs.Heights.{height, rank}
-use Rattle.cc_meaning_typing.specs.Registers.{Covers, join}
+use Rattle.cc_meaning_typing.specs.Registers.{Covers, Fits, join}
 use Rattle.cc_meaning_typing.specs.States.{StateCovers, join_states}
 use Rattle.cc_meaning_typing.specs.Growth.{GrowthEnds}
 use Rattle.cc_meaning_typing.specs.Code.{Body}
@@ -58,6 +59,14 @@ pub record JoinIsLeast (program : Program) : Type 0 where
   pub right : (a b : RegType) → Covers program (join program a b) b
   pub least : (a b c : RegType) → Covers program c a → Covers program c b → Covers program c (join program a b)
   pub covering : (a b : RegType) → Covers program a b ↔ (join program a b ≡ a)
+
+-- the tests of classes by number say what the relations say
+pub record ClassTestsDecide (program : Program) : Type 0 where
+  pub ancestors : (class ancestor : ℕ) → class < length program.classes → IsTrue (has_ancestor program class ancestor) ↔ Inherits program class ancestor
+  pub objects : (object declared : ℕ) → object < length program.classes → IsTrue (fits_class program object declared) ↔ Fits program (Reference (class_type object)) (class_type declared)
+
+abbrev pub ClassTests : Type 0
+ClassTests = (program : Program) → IsHierarchy program → ClassTestsDecide program
 
 abbrev pub TypeTrees : Type 0
 TypeTrees = (program : Program) → IsHierarchy program → TypesAreATree program

@@ -11,4 +11,10 @@ pub mod Growth
 pub mod Laws
 pub mod Worked
 pub mod WorkedTyping
+pub mod WorkedErrors
 pub mod WellFormed
+pub mod Complete
+pub mod Tries
+pub mod Faults
+pub mod Ending
+pub mod VerifyLaws

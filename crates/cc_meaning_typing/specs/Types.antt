@@ -7,7 +7,7 @@ use Rattle.cc_meaning.specs.declared.program.ClassKind.{ClassKind}
 use Rattle.cc_meaning.specs.declared.program.ClassKind.TheVariants as origin
 use Rattle.cc_meaning.specs.declared.program.DexType.{DexType}
 use Rattle.cc_meaning.specs.declared.program.Program.{Program}
-use Rattle.cc_meaning_typing.specs.Hierarchy.{on_value, superclass_of, object_class, Inherits}
+use Rattle.cc_meaning_typing.specs.Hierarchy.{on_value, superclass_of, object_class, Inherits, has_ancestor}
 
 -- ---- types
 
@@ -38,19 +38,20 @@ is_reference type = is_reference_in type.dims type.base
 
 -- ---- held types
 
--- every reference fits an outside type and an interface of the file
+-- Every reference fits an interface of the file, and an outside type that stands directly below Object. An outside exception stands below Exception or Error,
+-- and only what is below it fits it.
 unfoldable pub is_loose_kind : ClassKind → Bool → Bool
 is_loose_kind origin.File is_interface = is_interface
 is_loose_kind origin.BuiltIn is_interface = false
 is_loose_kind origin.Outside is_interface = true
-is_loose_kind origin.OutsideError is_interface = true
+is_loose_kind origin.OutsideError is_interface = false
 is_loose_kind origin.Array is_interface = false
 
 unfoldable pub is_loose_in : Option Class → Bool
 is_loose_in None = false
 is_loose_in (Some class) = is_loose_kind class.kind class.is_interface
 
--- whether the class of a number is outside or an interface of the file
+-- whether the class of a number is an interface of the file, or outside and no exception
 unfoldable pub is_loose : Program → ℕ → Bool
 is_loose program class = is_loose_in (slice_get program.classes class)
 
@@ -61,6 +62,10 @@ held_base program base = base
 -- the type that a register holds for a declared type: Object for a loose one, and so in arrays
 unfoldable pub held : Program → DexType → DexType
 held program type = typed type.dims (held_base program type.base)
+
+-- whether an object of the first class fits the second as a declared one: the second is loose, or the first is below it
+unfoldable pub fits_class : Program → (object declared : ℕ) → Bool
+fits_class program object declared = cond (is_loose program declared) true (has_ancestor program object declared)
 
 -- ---- below
 

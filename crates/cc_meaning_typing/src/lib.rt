@@ -1,17 +1,29 @@
-//! Register types, the typing rules, and what it is for a program to be well typed: definitions and laws.
+//! Register types, the typing rules, what it is for a program to be well typed, how a typing is found and which fault is first: definitions and laws.
 #![tactic(auto)]
 
-ghost use Rattle.cc_meaning_typing.specs.Laws.{TypeTrees, TypesAreOrdered, LeastTypes, RegistersAreOrdered, Joins, StatesAreOrdered, StateJoins, MonotoneRules, BoundedGrowth, TypedReaches};
+ghost use Rattle.cc_meaning_typing.specs.Laws.{ClassTests, TypeTrees, TypesAreOrdered, LeastTypes, RegistersAreOrdered, Joins, StatesAreOrdered, StateJoins, MonotoneRules, BoundedGrowth, TypedReaches};
 ghost use Rattle.cc_meaning_typing.specs.Worked.{TypesHold, JoinsHold, MovesHold, ResultsHold, ReturnsHold, ConstantsHold, ObjectsHold, ArraysHold, FieldsHold, CallsHold, OperationsHold, BranchesHold, StatesHold};
+ghost use Rattle.cc_meaning_typing.specs.WorkedErrors.{ErrorTypesHold, ErrorsHold};
 ghost use Rattle.cc_meaning_typing.specs.WorkedTyping.{TypingsHold};
 
 mod state;
+mod verify_laws;
 
 pub use state::{Pending, State};
+pub use verify_laws::{
+    law_cover_tries, law_find_typings, law_laid_out, law_leads_spread, law_one_fault,
+    law_one_first_fault, law_shrink_tries,
+};
 
 /// In a hierarchy, the types are a tree with Object at its root.
 pub fn law_tree()
     ensures { TypeTrees }
+{}
+
+/// In a hierarchy, the tests of classes decide what a class inherits from, and what an object of a class fits.
+#[tactic(auto, using(crate::proofs::ClassTests::class_tests))]
+pub fn law_class_tests()
+    ensures { ClassTests }
 {}
 
 /// In a hierarchy, being below is a partial order on types.
@@ -72,6 +84,13 @@ pub fn law_typing()
 #[tactic(auto, using(crate::proofs::WorkedTyping::typings_hold))]
 pub fn worked_typings()
     ensures { TypingsHold }
+{}
+
+/// The definitions at the worked example of outside exceptions: each is held as itself, stands below its superclass, and is thrown and caught.
+#[tactic(auto, using(crate::proofs::WorkedErrors::error_types_hold, crate::proofs::WorkedErrors::errors_hold))]
+pub fn worked_errors()
+    ensures types { ErrorTypesHold }
+    ensures errors { ErrorsHold }
 {}
 
 /// The definitions at worked examples: one for each row of the table of rules, and what each row refuses.

@@ -16,14 +16,14 @@ use Rattle.cc_meaning.specs.declared.program.Placed.{Placed}
 use Rattle.cc_meaning.specs.Order.{IsBefore}
 use Rattle.cc_meaning_program.proofs.Rising.{not_before_itself}
 use Rattle.cc_meaning_program.specs.Named.{type_name}
-use Rattle.cc_meaning_resolution.specs.Resolved.{whole_name}
-use Rattle.cc_meaning_linking.specs.Outlines.{definition_number, AreOutlines}
-use Rattle.cc_meaning_linking.specs.Owners.{method_in, method_placed}
-use Rattle.cc_meaning_linking.specs.Plans.{name_at, source_member, method_plan_name, IsSource}
-use Rattle.cc_meaning_linking.specs.declared.outline.Outline.{Outline}
-use Rattle.cc_meaning_linking.specs.declared.plan.MethodPlan.{MethodPlan}
-use Rattle.cc_meaning_linking.specs.declared.plan.MethodSource.{MethodSource}
-use Rattle.cc_meaning_linking.specs.declared.plan.MethodSource.TheVariants as from
+use Rattle.cc_meaning_program.specs.Resolved.{whole_name}
+use Rattle.cc_meaning_program.specs.Outlines.{definition_number, AreOutlines}
+use Rattle.cc_meaning_program.specs.OwnerNumbers.{method_in, method_placed}
+use Rattle.cc_meaning_program.specs.Plans.{name_at, source_member, method_plan_name, IsSource}
+use Rattle.cc_meaning_program.specs.declared.outline.Outline.{Outline}
+use Rattle.cc_meaning_program.specs.declared.plan.MethodPlan.{MethodPlan}
+use Rattle.cc_meaning_program.specs.declared.plan.MethodSource.{MethodSource}
+use Rattle.cc_meaning_program.specs.declared.plan.MethodSource.TheVariants as from
 use Rattle.cc_members.specs.MadeMethods.{SourceTakes}
 use Rattle.cc_members.specs.MethodPremises.{PlanMethods, BodyLeft, BodiesLeft}
 use Rattle.cc_members.specs.Stated.{definition_at, members_at}

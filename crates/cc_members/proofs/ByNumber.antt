@@ -10,12 +10,12 @@ use Rattle.cc_meaning.specs.declared.program.Field.{Field}
 use Rattle.cc_meaning.specs.declared.program.Program.{Program}
 use Rattle.cc_meaning.specs.Names.{name_or_none, class_name, descriptor, field_name}
 use Rattle.cc_meaning_program.specs.TypeNames.{type_spelled, Spells}
-use Rattle.cc_meaning_resolution.specs.Declared.{members_of}
-use Rattle.cc_meaning_resolution.specs.Resolved.{names_of, whole_name}
-use Rattle.cc_meaning_resolution.proofs.Alike.{descriptor_by_names}
-use Rattle.cc_meaning_linking.specs.Outlines.{definition_number, AreOutlines}
-use Rattle.cc_meaning_linking.specs.Plans.{name_at}
-use Rattle.cc_meaning_linking.specs.declared.outline.Outline.{Outline}
+use Rattle.cc_meaning_program.specs.OwnMembers.{members_of}
+use Rattle.cc_meaning_program.specs.Resolved.{names_of, whole_name}
+use Rattle.cc_meaning_program.proofs.Alike.{descriptor_by_names}
+use Rattle.cc_meaning_program.specs.Outlines.{definition_number, AreOutlines}
+use Rattle.cc_meaning_program.specs.Plans.{name_at}
+use Rattle.cc_meaning_program.specs.declared.outline.Outline.{Outline}
 use Rattle.cc_members.specs.Stated.{members_at}
 use Rattle.cc_members.proofs.Typed.{item_there}
 

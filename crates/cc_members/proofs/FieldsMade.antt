@@ -12,7 +12,7 @@ use Rattle.cc_meaning.specs.declared.program.Field.{Field}
 use Rattle.cc_meaning.specs.declared.program.Program.{Program}
 use Rattle.cc_meaning.specs.BuiltIn.{built_in_classes, built_in_plain_classes, object_name, string_name, string_builder_name, system_name, print_stream_name, out_name}
 use Rattle.cc_meaning.specs.Names.{field_name}
-use Rattle.cc_meaning_file.specs.Descriptors.{names_class}
+use Rattle.cc_meaning_dex.specs.Descriptors.{names_class}
 use Rattle.cc_meaning_program.specs.declared.reference.Reference.TheVariants as reference
 use Rattle.cc_meaning_program.specs.BodyFaults.{HaveSoundBodies}
 use Rattle.cc_meaning_program.specs.ClassNames.{AreClassNames, IsClassName}
@@ -20,18 +20,18 @@ use Rattle.cc_meaning_program.specs.Instructions.{StandToEnd}
 use Rattle.cc_meaning_program.specs.Named.{text_of, type_name, field_within, field_member}
 use Rattle.cc_meaning_program.specs.References.{FieldFloats}
 use Rattle.cc_meaning_program.specs.TypeNames.{base_spelled, type_spelled, Spells, ListedTypesSpelled}
-use Rattle.cc_meaning_resolution.specs.Declared.{field_defined}
-use Rattle.cc_meaning_resolution.specs.Members.{out_member, FieldIsNamedBy, IsField}
-use Rattle.cc_meaning_resolution.specs.Naming.{RowNamesField}
-use Rattle.cc_meaning_resolution.specs.Resolved.{names_of, whole_name}
-use Rattle.cc_meaning_resolution.specs.Searches.{First}
-use Rattle.cc_meaning_linking.specs.Outlines.{AreOutlines}
-use Rattle.cc_meaning_linking.specs.Owners.{field_in, field_placed}
-use Rattle.cc_meaning_linking.specs.Plans.{name_at, raw_field_member, field_source_member, field_plan_name, IsFieldSource}
-use Rattle.cc_meaning_linking.specs.Rows.{FitTables, FitClasses}
-use Rattle.cc_meaning_linking.specs.declared.outline.Outline.{Outline}
-use Rattle.cc_meaning_linking.specs.declared.plan.FieldPlan.{FieldPlan}
-use Rattle.cc_meaning_linking.specs.declared.plan.FieldSource.{FieldSource}
+use Rattle.cc_meaning_program.specs.OwnMembers.{field_defined}
+use Rattle.cc_meaning_program.specs.Members.{out_member, FieldIsNamedBy, IsField}
+use Rattle.cc_meaning_program.specs.Naming.{RowNamesField}
+use Rattle.cc_meaning_program.specs.Resolved.{names_of, whole_name}
+use Rattle.cc_meaning_program.specs.Searches.{First}
+use Rattle.cc_meaning_program.specs.Outlines.{AreOutlines}
+use Rattle.cc_meaning_program.specs.OwnerNumbers.{field_in, field_placed}
+use Rattle.cc_meaning_program.specs.Plans.{name_at, raw_field_member, field_source_member, field_plan_name, IsFieldSource}
+use Rattle.cc_meaning_program.specs.Rows.{FitTables, FitClasses}
+use Rattle.cc_meaning_program.specs.declared.outline.Outline.{Outline}
+use Rattle.cc_meaning_program.specs.declared.plan.FieldPlan.{FieldPlan}
+use Rattle.cc_meaning_program.specs.declared.plan.FieldSource.{FieldSource}
 use Rattle.cc_names.specs.Types.{AreTypesOf}
 use Rattle.cc_members.specs.FieldPremises.{PlanFields, HaveFieldNames, IsPlannedField, ArePlannedFields}
 use Rattle.cc_members.specs.MadeFields.{FieldCanBeMade, FieldOfRow, FieldMade}

@@ -12,11 +12,11 @@ use Rattle.cc_meaning.specs.declared.instruction.TypeRef.TheVariants as type
 use Rattle.cc_meaning.specs.declared.program.Placed.{Placed}
 use Rattle.cc_meaning_program.specs.declared.reference.Reference.TheVariants as reference
 use Rattle.cc_meaning_program.specs.References.{reference_of, named_type, named_method}
-use Rattle.cc_meaning_resolution.specs.Members.{how_invoked}
-use Rattle.cc_meaning_resolution.specs.Naming.{RowNamesMethod, RowNamesField, NamesMethod, NamesField}
-use Rattle.cc_meaning_resolution.specs.Searches.{First}
-use Rattle.cc_meaning_linking.specs.Uses.{method_use_of, field_use_of, method_uses_of, field_uses_of}
-use Rattle.cc_meaning_linking.specs.declared.uses.MethodUse.{MethodUse}
+use Rattle.cc_meaning_program.specs.Members.{how_invoked}
+use Rattle.cc_meaning_program.specs.Naming.{RowNamesMethod, RowNamesField, NamesMethod, NamesField}
+use Rattle.cc_meaning_program.specs.Searches.{First}
+use Rattle.cc_meaning_program.specs.Uses.{method_use_of, field_use_of, method_uses_of, field_uses_of}
+use Rattle.cc_meaning_program.specs.declared.uses.MethodUse.{MethodUse}
 
 -- ---- what an instruction uses
 

@@ -12,11 +12,11 @@ use Rattle.cc_meaning.specs.declared.program.Base.TheVariants as base
 use Rattle.cc_meaning.specs.declared.program.ClassKind.{ClassKind}
 use Rattle.cc_meaning.specs.declared.program.ClassKind.TheVariants as kinds
 use Rattle.cc_meaning.specs.BuiltIn.{built_in_classes, built_in_plain_classes, built_in_throwables, is_built_in, object_name, string_name, string_builder_name, system_name, print_stream_name, throwable_name, exception_name, error_name, runtime_exception_name, arithmetic_exception_name, null_pointer_exception_name, array_store_exception_name, class_cast_exception_name, index_out_of_bounds_exception_name, negative_array_size_exception_name, illegal_argument_exception_name, illegal_state_exception_name, array_index_out_of_bounds_exception_name, string_index_out_of_bounds_exception_name, linkage_error_name, virtual_machine_error_name, no_class_def_found_error_name, exception_in_initializer_error_name, incompatible_class_change_error_name, abstract_method_error_name, stack_overflow_error_name}
-use Rattle.cc_meaning_file.specs.Descriptors.{names_class}
+use Rattle.cc_meaning_dex.specs.Descriptors.{names_class}
 use Rattle.cc_meaning_program.specs.ClassNames.{AreClassNames, IsClassName}
 use Rattle.cc_meaning_program.specs.TypeNames.{base_spelled, type_spelled}
-use Rattle.cc_meaning_resolution.specs.Declared.{built_in_member, methods_of_table, array_methods, built_in_by_kind, is_constructor}
-use Rattle.cc_meaning_resolution.specs.Members.{ResultSpelled}
+use Rattle.cc_meaning_program.specs.OwnMembers.{built_in_member, methods_of_table, array_methods, built_in_by_kind, is_constructor}
+use Rattle.cc_meaning_program.specs.Members.{ResultSpelled}
 use Rattle.cc_meaning_run.specs.BuiltInMethods.{BuiltInMethod, BuiltInMethods, built_in_tables, print_stream_methods, object_methods, string_methods, string_builder_methods, message_methods}
 use Rattle.cc_members.specs.MadeMethods.{IsSpelled, ListedStands}
 

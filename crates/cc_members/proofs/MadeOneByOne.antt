@@ -1,8 +1,8 @@
 -- One more thing made from a plan.
 use Rattle.std.proofs.Common.{◌≡◌, ◌⊎◌, inl, inr, ℕ, zero, suc, ◌+◌, List, [], ◌∷◌, ◌++◌, length, map, Some, refl, sym, ap, subst, ◌∙◌, length-append, arith}
 use Rattle.std.specs.Prelude.{slice_get}
-use Rattle.cc_meaning_resolution.proofs.Alike.{same_lists, length_map}
-use Rattle.cc_meaning_resolution.proofs.SameNames.{found_mapped}
+use Rattle.cc_meaning_program.proofs.Alike.{same_lists, length_map}
+use Rattle.cc_meaning_program.proofs.SameNames.{found_mapped}
 use Rattle.cc_members.specs.Made.{EachMade}
 
 last_or_before : {A : Type 0} (xs : List A) (x y : A) (k : ℕ) → slice_get (xs ++ x ∷ []) k ≡ Some y → (slice_get xs k ≡ Some y) ⊎ ((k ≡ length xs) × (x ≡ y))

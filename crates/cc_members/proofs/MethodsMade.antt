@@ -2,8 +2,8 @@
 use Rattle.std.proofs.Common.{◌≡◌, ◌⊎◌, inl, inr, not, ℕ, ◌<◌, List, [], ◌∷◌, length, map, Option, Some, None, refl, sym, ap, subst, ◌∙◌, arith}
 use Rattle.std.specs.Prelude.{slice_get, option_and_then}
 use Rattle.std.proofs.lemmas.Option.{slice_get_within, get_or_from_slice_get}
-use Rattle.cc_code.specs.Linkable.{SoundCodeIsLinkable}
-use Rattle.cc_code.specs.ProgramLinks.{LinkInto}
+use Rattle.cc_bodies.specs.Linkable.{SoundCodeIsLinkable}
+use Rattle.cc_bodies.specs.ProgramLinks.{LinkInto}
 use Rattle.cc_meaning.specs.declared.file.Ids.{Ids}
 use Rattle.cc_meaning.specs.declared.file.MethodRow.{MethodRow}
 use Rattle.cc_meaning.specs.declared.file.ProtoRow.{ProtoRow}
@@ -14,7 +14,7 @@ use Rattle.cc_meaning.specs.declared.program.Method.{Method}
 use Rattle.cc_meaning.specs.declared.program.Placed.{Placed}
 use Rattle.cc_meaning.specs.declared.program.Program.{Program}
 use Rattle.cc_meaning.specs.Names.{method_name}
-use Rattle.cc_meaning_file.specs.Descriptors.{IsDescriptor}
+use Rattle.cc_meaning_dex.specs.Descriptors.{IsDescriptor}
 use Rattle.cc_meaning_program.specs.declared.reference.Reference.TheVariants as reference
 use Rattle.cc_meaning_program.specs.BodyFaults.{HaveSoundBodies}
 use Rattle.cc_meaning_program.specs.ClassNames.{AreClassNames}
@@ -22,20 +22,20 @@ use Rattle.cc_meaning_program.specs.Instructions.{StandToEnd}
 use Rattle.cc_meaning_program.specs.Named.{text_of, type_name, method_member}
 use Rattle.cc_meaning_program.specs.References.{MethodFloats}
 use Rattle.cc_meaning_program.specs.TypeNames.{Spells, ListedTypesSpelled}
-use Rattle.cc_meaning_resolution.specs.Declared.{method_defined, method_listed, built_in_member, built_in_methods_of, built_in_by_kind, is_constructor}
-use Rattle.cc_meaning_resolution.specs.Members.{Pairs, ResultSpelled, IsNamedBy, IsMethod, is_static_call, is_virtual_call}
-use Rattle.cc_meaning_resolution.specs.Naming.{RowNamesMethod}
-use Rattle.cc_meaning_resolution.specs.Resolved.{names_of, whole_name}
-use Rattle.cc_meaning_resolution.specs.Searches.{First}
-use Rattle.cc_meaning_linking.specs.Outlines.{AreOutlines}
-use Rattle.cc_meaning_linking.specs.Owners.{method_in, method_placed}
-use Rattle.cc_meaning_linking.specs.Plans.{name_at, raw_method_member, listed_member, source_member, method_plan_name, IsSource}
-use Rattle.cc_meaning_linking.specs.Rows.{FitTables, FitClasses}
-use Rattle.cc_meaning_linking.specs.declared.links.Links.{Links}
-use Rattle.cc_meaning_linking.specs.declared.outline.Outline.{Outline}
-use Rattle.cc_meaning_linking.specs.declared.plan.MethodPlan.{MethodPlan}
-use Rattle.cc_meaning_linking.specs.declared.plan.MethodSource.{MethodSource}
-use Rattle.cc_meaning_linking.specs.declared.uses.MethodUse.{MethodUse}
+use Rattle.cc_meaning_program.specs.OwnMembers.{method_defined, method_listed, built_in_member, built_in_methods_of, built_in_by_kind, is_constructor}
+use Rattle.cc_meaning_program.specs.Members.{Pairs, ResultSpelled, IsNamedBy, IsMethod, is_static_call, is_virtual_call}
+use Rattle.cc_meaning_program.specs.Naming.{RowNamesMethod}
+use Rattle.cc_meaning_program.specs.Resolved.{names_of, whole_name}
+use Rattle.cc_meaning_program.specs.Searches.{First}
+use Rattle.cc_meaning_program.specs.Outlines.{AreOutlines}
+use Rattle.cc_meaning_program.specs.OwnerNumbers.{method_in, method_placed}
+use Rattle.cc_meaning_program.specs.Plans.{name_at, raw_method_member, listed_member, source_member, method_plan_name, IsSource}
+use Rattle.cc_meaning_program.specs.Rows.{FitTables, FitClasses}
+use Rattle.cc_meaning_program.specs.declared.links.Links.{Links}
+use Rattle.cc_meaning_program.specs.declared.outline.Outline.{Outline}
+use Rattle.cc_meaning_program.specs.declared.plan.MethodPlan.{MethodPlan}
+use Rattle.cc_meaning_program.specs.declared.plan.MethodSource.{MethodSource}
+use Rattle.cc_meaning_program.specs.declared.uses.MethodUse.{MethodUse}
 use Rattle.cc_meaning_run.specs.BuiltInMethods.{BuiltInMethod}
 use Rattle.cc_names.specs.Types.{AreTypesOf}
 use Rattle.cc_members.specs.Made.{EachMade}

@@ -16,7 +16,7 @@ use Rattle.cc_meaning_program.specs.BodyFaults.{FirstHas, NoneHas, FieldFault, M
 use Rattle.cc_meaning_program.specs.Instructions.{AreInstructions, StandToEnd}
 use Rattle.cc_meaning_program.specs.Named.{field_text, method_text}
 use Rattle.cc_meaning_program.specs.References.{reference_of, reference_name, Floats, FieldFloats, MethodFloats}
-use Rattle.cc_meaning_resolution.specs.Naming.{BodyIs, MethodsAre, ClassesAre}
+use Rattle.cc_meaning_program.specs.Naming.{BodyIs, MethodsAre, ClassesAre}
 
 -- where no fault is that of the first faulty item, no item has any
 none_first : {A : Type 0} (has : A → ProgramFault → Type 0) (items : List A) → ((fault : ProgramFault) → ¬ FirstHas has items fault) → NoneHas has items

@@ -6,7 +6,7 @@ use Rattle.cc_meaning.specs.declared.program.DexType.{DexType}
 use Rattle.cc_meaning.specs.declared.program.Placed.{Placed}
 use Rattle.cc_meaning_program.specs.Instructions.{AreInstructions}
 use Rattle.cc_meaning_program.specs.TypeNames.{IsTypeOf}
-use Rattle.cc_meaning_resolution.specs.Members.{Pairs, ResultSpelled}
+use Rattle.cc_meaning_program.specs.Members.{Pairs, ResultSpelled}
 use Rattle.cc_members.specs.MadeMethods.{IsSpelled}
 
 -- pairs with their sides changed

@@ -4,12 +4,12 @@ use Rattle.std.specs.Prelude.{slice_get}
 use Rattle.std.proofs.lemmas.Option.{slice_get_cases}
 use Rattle.cc_meaning.specs.declared.file.Ids.{Ids}
 use Rattle.cc_meaning.specs.declared.program.DexType.{DexType}
-use Rattle.cc_meaning_file.specs.Descriptors.{names_value, IsDescriptor, IsValueDescriptor}
+use Rattle.cc_meaning_dex.specs.Descriptors.{names_value, IsDescriptor, IsValueDescriptor}
 use Rattle.cc_meaning_program.specs.ClassNames.{AreClassNames}
 use Rattle.cc_meaning_program.specs.Named.{type_name}
 use Rattle.cc_meaning_program.specs.References.{IsFloating}
 use Rattle.cc_meaning_program.specs.TypeNames.{Spells, ListedTypesSpelled}
-use Rattle.cc_meaning_linking.specs.Rows.{FitTables, IsTypeRow}
+use Rattle.cc_meaning_program.specs.Rows.{FitTables, IsTypeRow}
 use Rattle.cc_names.specs.Types.{AreTypesOf}
 
 -- where there is a place there is an item

@@ -5,12 +5,12 @@ use Rattle.cc_meaning.specs.declared.file.RawClass.{RawClass}
 use Rattle.cc_meaning.specs.declared.program.Field.{Field}
 use Rattle.cc_meaning.specs.declared.program.Program.{Program}
 use Rattle.cc_meaning.specs.Names.{field_name}
-use Rattle.cc_meaning_resolution.specs.Members.{IsField}
-use Rattle.cc_meaning_resolution.specs.Resolved.{names_of}
-use Rattle.cc_meaning_linking.specs.Plans.{name_at, field_plan_name, field_source_member, AreFieldPlans}
-use Rattle.cc_meaning_linking.specs.Uses.{AreUses}
-use Rattle.cc_meaning_linking.specs.declared.plan.FieldPlan.{FieldPlan}
-use Rattle.cc_meaning_linking.specs.declared.uses.MethodUse.{MethodUse}
+use Rattle.cc_meaning_program.specs.Members.{IsField}
+use Rattle.cc_meaning_program.specs.Resolved.{names_of}
+use Rattle.cc_meaning_program.specs.Plans.{name_at, field_plan_name, field_source_member, AreFieldPlans}
+use Rattle.cc_meaning_program.specs.Uses.{AreUses}
+use Rattle.cc_meaning_program.specs.declared.plan.FieldPlan.{FieldPlan}
+use Rattle.cc_meaning_program.specs.declared.uses.MethodUse.{MethodUse}
 
 -- all fields of the program of a file, by what its instructions name
 pub record PlanFields (ids : Ids) (classes : List RawClass) (names : List (List ℕ)) (plans : List FieldPlan) : Type 0 where

@@ -1,3 +1,8 @@
+pub mod ListedNames
+pub mod Named
+pub mod FirstInOrder
+pub mod Candidates
+pub mod Linked
 pub mod Stated
 pub mod MadeFields
 pub mod FieldPremises

@@ -2,9 +2,9 @@
 use Rattle.std.specs.Prelude.{ℕ, List, map, find}
 use Rattle.std.specs.Str.{bytes_eq}
 use Rattle.cc_meaning_run.specs.BuiltInMethods.{BuiltInMethod, BuiltInMethods}
-use Rattle.cc_meaning_resolution.specs.Declared.{methods_of_table}
-use Rattle.cc_members.specs.declared.built_in.Listed.{Listed}
-use Rattle.cc_members.specs.declared.built_in.Table.{Table}
+use Rattle.cc_meaning_program.specs.OwnMembers.{methods_of_table}
+use Rattle.cc_members.specs.declared.made_built_in.Listed.{Listed}
+use Rattle.cc_members.specs.declared.made_built_in.Table.{Table}
 
 -- a method of the class of this name
 unfoldable pub listed_in : List ℕ → Listed → BuiltInMethod

@@ -9,10 +9,10 @@ use Rattle.cc_meaning.specs.declared.program.Field.{Field}
 use Rattle.cc_meaning.specs.BuiltIn.{out_name, print_stream_name}
 use Rattle.cc_meaning_program.specs.Named.{text_of}
 use Rattle.cc_meaning_program.specs.TypeNames.{Spells}
-use Rattle.cc_meaning_linking.specs.Owners.{field_in}
-use Rattle.cc_meaning_linking.specs.declared.outline.Outline.{Outline}
-use Rattle.cc_meaning_linking.specs.declared.plan.FieldSource.{FieldSource}
-use Rattle.cc_meaning_linking.specs.declared.plan.FieldSource.TheVariants as from
+use Rattle.cc_meaning_program.specs.OwnerNumbers.{field_in}
+use Rattle.cc_meaning_program.specs.declared.outline.Outline.{Outline}
+use Rattle.cc_meaning_program.specs.declared.plan.FieldSource.{FieldSource}
+use Rattle.cc_meaning_program.specs.declared.plan.FieldSource.TheVariants as from
 use Rattle.cc_members.specs.Stated.{members_at, FieldRowStands}
 
 -- what a field is made from is there

@@ -2,8 +2,8 @@
 use Rattle.std.specs.Prelude.{◌≡◌, ◌⊎◌, ℕ, ◌<◌, Bool, true, false, not, List, map, length, slice_get, Option, Some, None, is_some, option_and_then, Contains, codes}
 use Rattle.std.specs.Str.{bytes_eq}
 use Rattle.cc_bodies.specs.Bodies.{IsBody}
-use Rattle.cc_code.specs.Linkable.{IsLinkable}
-use Rattle.cc_code.specs.ProgramLinks.{LinkInto}
+use Rattle.cc_bodies.specs.Linkable.{IsLinkable}
+use Rattle.cc_bodies.specs.ProgramLinks.{LinkInto}
 use Rattle.cc_meaning.specs.declared.file.Ids.{Ids}
 use Rattle.cc_meaning.specs.declared.file.MethodRow.{MethodRow}
 use Rattle.cc_meaning.specs.declared.file.ProtoRow.{ProtoRow}
@@ -16,18 +16,18 @@ use Rattle.cc_meaning.specs.declared.program.MethodKind.{MethodKind}
 use Rattle.cc_meaning.specs.declared.program.MethodKind.TheVariants as body
 use Rattle.cc_meaning.specs.declared.program.Placed.{Placed}
 use Rattle.cc_meaning.specs.declared.program.Program.{Program}
-use Rattle.cc_meaning_classes.specs.CodeItems.{has_flag}
+use Rattle.cc_meaning_dex.specs.CodeItems.{has_flag}
 use Rattle.cc_meaning_program.specs.Named.{text_of}
 use Rattle.cc_meaning_program.specs.TypeNames.{Spells}
-use Rattle.cc_meaning_resolution.specs.Declared.{built_in_by_kind, built_in_member, is_constructor}
-use Rattle.cc_meaning_resolution.specs.Members.{Pairs, KindResolved, ResultSpelled, is_static_call, is_virtual_call}
+use Rattle.cc_meaning_program.specs.OwnMembers.{built_in_by_kind, built_in_member, is_constructor}
+use Rattle.cc_meaning_program.specs.Members.{Pairs, KindResolved, ResultSpelled, is_static_call, is_virtual_call}
 use Rattle.cc_meaning_run.specs.BuiltInMethods.{BuiltInMethod}
-use Rattle.cc_meaning_linking.specs.Owners.{method_in}
-use Rattle.cc_meaning_linking.specs.Plans.{name_at}
-use Rattle.cc_meaning_linking.specs.declared.links.Links.{Links}
-use Rattle.cc_meaning_linking.specs.declared.outline.Outline.{Outline}
-use Rattle.cc_meaning_linking.specs.declared.plan.MethodSource.{MethodSource}
-use Rattle.cc_meaning_linking.specs.declared.plan.MethodSource.TheVariants as from
+use Rattle.cc_meaning_program.specs.OwnerNumbers.{method_in}
+use Rattle.cc_meaning_program.specs.Plans.{name_at}
+use Rattle.cc_meaning_program.specs.declared.links.Links.{Links}
+use Rattle.cc_meaning_program.specs.declared.outline.Outline.{Outline}
+use Rattle.cc_meaning_program.specs.declared.plan.MethodSource.{MethodSource}
+use Rattle.cc_meaning_program.specs.declared.plan.MethodSource.TheVariants as from
 use Rattle.cc_members.specs.Stated.{definition_at, members_at}
 use Rattle.cc_members.specs.Taking.{BodyAt, TakesBody}
 

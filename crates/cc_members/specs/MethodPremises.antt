@@ -1,7 +1,7 @@
 -- The plans of a file's methods, what is known of its links and its bodies, and what is said of the methods that the plans give.
 use Rattle.std.specs.Prelude.{◌≡◌, ℕ, ◌≤◌, List, map, slice_get, Option, Some}
 use Rattle.cc_bodies.specs.Bodies.{IsBody}
-use Rattle.cc_code.specs.ProgramLinks.{LinkInto}
+use Rattle.cc_bodies.specs.ProgramLinks.{LinkInto}
 use Rattle.cc_meaning.specs.declared.file.Ids.{Ids}
 use Rattle.cc_meaning.specs.declared.file.RawClass.{RawClass}
 use Rattle.cc_meaning.specs.declared.file.RawMethod.{RawMethod}
@@ -9,17 +9,17 @@ use Rattle.cc_meaning.specs.declared.program.Method.{Method}
 use Rattle.cc_meaning.specs.declared.program.Placed.{Placed}
 use Rattle.cc_meaning.specs.declared.program.Program.{Program}
 use Rattle.cc_meaning.specs.Names.{method_name}
-use Rattle.cc_meaning_resolution.specs.Members.{IsMethod}
-use Rattle.cc_meaning_resolution.specs.Resolved.{names_of}
-use Rattle.cc_meaning_linking.specs.Links.{AreLinks}
-use Rattle.cc_meaning_linking.specs.Owners.{method_in}
-use Rattle.cc_meaning_linking.specs.Plans.{name_at, method_plan_name, source_member, AreMethodPlans}
-use Rattle.cc_meaning_linking.specs.Uses.{AreUses}
-use Rattle.cc_meaning_linking.specs.declared.links.Links.{Links}
-use Rattle.cc_meaning_linking.specs.declared.outline.Outline.{Outline}
-use Rattle.cc_meaning_linking.specs.declared.plan.MethodPlan.{MethodPlan}
-use Rattle.cc_meaning_linking.specs.declared.plan.MethodSource.TheVariants as from
-use Rattle.cc_meaning_linking.specs.declared.uses.MethodUse.{MethodUse}
+use Rattle.cc_meaning_program.specs.Members.{IsMethod}
+use Rattle.cc_meaning_program.specs.Resolved.{names_of}
+use Rattle.cc_meaning_program.specs.Links.{AreLinks}
+use Rattle.cc_meaning_program.specs.OwnerNumbers.{method_in}
+use Rattle.cc_meaning_program.specs.Plans.{name_at, method_plan_name, source_member, AreMethodPlans}
+use Rattle.cc_meaning_program.specs.Uses.{AreUses}
+use Rattle.cc_meaning_program.specs.declared.links.Links.{Links}
+use Rattle.cc_meaning_program.specs.declared.outline.Outline.{Outline}
+use Rattle.cc_meaning_program.specs.declared.plan.MethodPlan.{MethodPlan}
+use Rattle.cc_meaning_program.specs.declared.plan.MethodSource.TheVariants as from
+use Rattle.cc_meaning_program.specs.declared.uses.MethodUse.{MethodUse}
 use Rattle.cc_members.specs.Stated.{definition_at, members_at}
 use Rattle.cc_members.specs.Taking.{BodyAt}
 

@@ -4,7 +4,7 @@ use Rattle.cc_meaning.specs.declared.file.FieldRow.{FieldRow}
 use Rattle.cc_meaning.specs.declared.file.Ids.{Ids}
 use Rattle.cc_meaning.specs.declared.file.RawClass.{RawClass}
 use Rattle.cc_meaning.specs.declared.program.DexType.{DexType}
-use Rattle.cc_meaning_linking.specs.declared.outline.Outline.{Outline}
+use Rattle.cc_meaning_program.specs.declared.outline.Outline.{Outline}
 
 -- the number of the definition of the class of a number
 abbrev pub definition_at : List Outline → ℕ → Option ℕ

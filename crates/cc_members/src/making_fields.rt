@@ -8,9 +8,9 @@ ghost use Rattle.cc_meaning_program.specs.BodyFaults.{HaveSoundBodies};
 ghost use Rattle.cc_meaning_program.specs.ClassNames.{AreClassNames};
 ghost use Rattle.cc_meaning_program.specs.Named.{type_name};
 ghost use Rattle.cc_meaning_program.specs.TypeNames.{Spells};
-ghost use Rattle.cc_meaning_linking.specs.Outlines.{AreOutlines};
-ghost use Rattle.cc_meaning_linking.specs.Owners.{field_in};
-ghost use Rattle.cc_meaning_linking.specs.Rows.{FitTables, FitClasses};
+ghost use Rattle.cc_meaning_program.specs.Outlines.{AreOutlines};
+ghost use Rattle.cc_meaning_program.specs.OwnerNumbers.{field_in};
+ghost use Rattle.cc_meaning_program.specs.Rows.{FitTables, FitClasses};
 ghost use Rattle.cc_names.specs.Types.{AreTypesOf};
 ghost use Rattle.cc_members.specs.FieldPremises.{PlanFields, HaveFieldNames, ArePlannedFields};
 ghost use Rattle.cc_members.specs.MadeFields.{FieldCanBeMade, FieldOfRow, FieldMade, OutOf};
@@ -22,8 +22,9 @@ use cc_meaning::fault::Memory;
 use cc_meaning::file::{Ids, RawClasses, RawField};
 use cc_meaning::lists::{ClassIx, Texts};
 use cc_meaning::program::{Field, Fields};
-use cc_meaning_linking::{FieldPlan, FieldPlans, FieldSource, Links, Outlines};
-use cc_meaning_program::{listed_types_spelled, stand_to_end};
+use cc_meaning_program::{
+    FieldPlan, FieldPlans, FieldSource, Links, Outlines, listed_types_spelled, stand_to_end,
+};
 use std::alloc::{AllocError, Global};
 
 /// The bare name of `System.out`.
@@ -34,7 +35,7 @@ const PRINT_STREAM: &[u8] = b"Ljava/io/PrintStream;";
 
 impl Sources<'_> {
     /// The field at a place among those that the file defines in a class.
-    #[tactic(auto, unfolding(cc_meaning_linking::specs::Owners::field_in))]
+    #[tactic(auto, unfolding(cc_meaning_program::specs::OwnerNumbers::field_in))]
     fn raw_field(&self, owner: ClassIx, place: u32) -> Option<RawField>
         ensures { result ≡ field_in place (members_at self.now.classes.now self.now.outlines.now owner) }
     {

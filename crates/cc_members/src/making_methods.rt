@@ -1,37 +1,38 @@
 //! The methods of a program.
 
-ghost use Rattle.cc_meaning_classes.specs.CodeItems.{has_flag};
+ghost use Rattle.cc_meaning_dex.specs.CodeItems.{has_flag};
 ghost use Rattle.cc_meaning_run.specs.BuiltInMethods.{BuiltInMethod};
 ghost use Rattle.std.specs.Prelude.{◌≡◌, ◌^◌, ◌<◌, ℕ, List, Contains, length, map, slice_get, IfOk, OnOk};
 ghost use Rattle.cc_meaning.specs.Order.{IsRising};
 ghost use Rattle.cc_meaning.specs.declared.program.DexType.{DexType};
 ghost use Rattle.cc_bodies.specs.Bodies.{AreBodies};
-ghost use Rattle.cc_meaning_linking.specs.Outlines.{AreOutlines};
-ghost use Rattle.cc_meaning_linking.specs.Owners.{method_in};
-ghost use Rattle.cc_meaning_linking.specs.Rows.{FitTables, FitClasses};
+ghost use Rattle.cc_meaning_program.specs.Outlines.{AreOutlines};
+ghost use Rattle.cc_meaning_program.specs.OwnerNumbers.{method_in};
+ghost use Rattle.cc_meaning_program.specs.Rows.{FitTables, FitClasses};
 ghost use Rattle.cc_meaning_program.specs.BodyFaults.{HaveSoundBodies};
 ghost use Rattle.cc_meaning_program.specs.ClassNames.{AreClassNames};
 ghost use Rattle.cc_members.specs.MethodPremises.{ArePlannedMethods, HaveMethodNames, LinkFile, PlanMethods};
 ghost use Rattle.cc_meaning_program.specs.TypeNames.{Spells};
-ghost use Rattle.cc_meaning_resolution.specs.Members.{Pairs, is_static_call, is_virtual_call};
+ghost use Rattle.cc_meaning_program.specs.Members.{Pairs, is_static_call, is_virtual_call};
 ghost use Rattle.cc_members.specs.Listed.{listed_in};
 ghost use Rattle.cc_members.specs.MadeMethods.{IsSpelled, KindCanBeMade, KindMade, ListedStands, MethodCanBeMade, MethodIs, MethodMade, MethodOfListed, MethodOfRow, MethodRowStands, SourceTakes, listed_at};
 ghost use Rattle.cc_members.specs.Stated.{members_at};
 ghost use Rattle.std.specs.Option.{option_copied};
 
-use crate::built_in::{Listed, method_listed};
+use crate::made_built_in::{Listed, method_listed};
 use crate::sources::{Sources, ascii, linked_type};
 use crate::taking::take_body;
-use cc_bodies::Bodies;
-use cc_code::{link_code, sound_code_is_linkable};
+use cc_bodies::{Bodies, link_code, sound_code_is_linkable};
 use cc_list::List;
 use cc_meaning::fault::Memory;
 use cc_meaning::file::{Ids, RawClasses, RawMethod};
 use cc_meaning::instruction::How;
 use cc_meaning::lists::{ClassIx, Texts};
 use cc_meaning::program::{DexType, Insns, Method, MethodKind, Methods, Types};
-use cc_meaning_linking::{Links, MethodPlan, MethodPlans, MethodSource, MethodUse, Outlines};
-use cc_meaning_program::{listed_types_spelled, stand_to_end};
+use cc_meaning_program::{
+    Links, MethodPlan, MethodPlans, MethodSource, MethodUse, Outlines, listed_types_spelled,
+    stand_to_end,
+};
 use std::alloc::{AllocError, Global};
 
 /// The access flag of a static method.
@@ -54,7 +55,7 @@ fn has_flag(flags: u32, flag: u32) -> bool
 }
 
 /// Whether what is called so is static.
-#[tactic(auto, unfolding(cc_meaning_resolution::specs::Members::is_static_call))]
+#[tactic(auto, unfolding(cc_meaning_program::specs::Members::is_static_call))]
 fn is_static_call(how: How) -> bool
     ensures { result ≡ is_static_call (Some how) }
 {
@@ -62,7 +63,7 @@ fn is_static_call(how: How) -> bool
 }
 
 /// Whether a call of it is dispatched.
-#[tactic(auto, unfolding(cc_meaning_resolution::specs::Members::is_virtual_call))]
+#[tactic(auto, unfolding(cc_meaning_program::specs::Members::is_virtual_call))]
 fn is_virtual_call(how: How) -> bool
     ensures { result ≡ is_virtual_call (Some how) }
 {
@@ -87,7 +88,7 @@ fn linked_types(
 
 impl<'a> Sources<'a> {
     /// The method at a place among those that the file defines in a class.
-    #[tactic(auto, unfolding(cc_meaning_linking::specs::Owners::method_in))]
+    #[tactic(auto, unfolding(cc_meaning_program::specs::OwnerNumbers::method_in))]
     fn raw_method(&self, owner: ClassIx, place: u32) -> Option<&'a RawMethod>
         ensures { option_copied result ≡ method_in place (members_at self.now.classes.now self.now.outlines.now owner) }
     {
@@ -219,7 +220,7 @@ impl<'a> Sources<'a> {
     }
 
     /// The built-in method at a place among those that a class lists.
-    #[tactic(auto, unfolding(cc_meaning_linking::specs::Plans::name_at))]
+    #[tactic(auto, unfolding(cc_meaning_program::specs::Plans::name_at))]
     fn built_in_method(
         &self,
         alloc: Global,

@@ -11,7 +11,7 @@ use cc_list::List;
 use cc_meaning::file::{Ids, RawClass, RawClasses};
 use cc_meaning::lists::{ClassIx, Texts, Units};
 use cc_meaning::program::DexType;
-use cc_meaning_linking::{Links, Outlines};
+use cc_meaning_program::{Links, Outlines};
 use cc_names::type_of;
 use std::alloc::{AllocError, Global};
 

@@ -9,7 +9,7 @@ use Rattle.std.proofs.lemmas.Slice.Eq.{bytes_eq-Decides}
 use Rattle.std.proofs.lemmas.Option.{slice_get-get_or}
 use Rattle.cc_meaning.specs.declared.file.Ids.{Ids}
 use Rattle.cc_meaning.specs.BuiltIn.{BuiltInClass, built_in_classes, built_in_plain_classes, built_in_throwables, is_built_in}
-use Rattle.cc_meaning_file.specs.Descriptors.{names_class, names_reference}
+use Rattle.cc_meaning_dex.specs.Descriptors.{names_class, names_reference}
 use Rattle.cc_meaning_program.specs.Named.{text_of, type_name}
 use Rattle.cc_meaning_program.specs.ClassNames.{base_name, texts_name, IsClassName, AreClassNames, listed, element, built_in, texts}
 use Rattle.cc_names.specs.declared.classes.Candidate.{Candidate}

@@ -2,7 +2,7 @@
 use Rattle.std.proofs.Common.{◌≡◌, ◌≢◌, ℕ, ◌+◌, ◌<◌, ◌≤◌, false, cond, eqb, List, length, get_or, drop, ap, ◌∙◌, arith}
 use Rattle.std.proofs.lemmas.List.{drop_more, at_drop_all}
 use Rattle.std.proofs.lemmas.Bool.Decides.{nat_tests}
-use Rattle.cc_meaning_file.specs.Descriptors.{dims_of}
+use Rattle.cc_meaning_dex.specs.Descriptors.{dims_of}
 
 pub dims_more : (units : List ℕ) (i : ℕ) → i < length units → get_or units i 0 ≡ 91 → dims_of (drop i units) ≡ dims_of (drop (i + 1) units) + 1
 unfolding dims_of

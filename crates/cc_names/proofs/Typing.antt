@@ -7,7 +7,7 @@ use Rattle.cc_meaning.specs.declared.file.Ids.{Ids}
 use Rattle.cc_meaning.specs.declared.program.Base.{Base}
 use Rattle.cc_meaning.specs.declared.program.Base.TheVariants as base
 use Rattle.cc_meaning.specs.declared.program.DexType.{DexType}
-use Rattle.cc_meaning_file.specs.Descriptors.{dims_of, names_class}
+use Rattle.cc_meaning_dex.specs.Descriptors.{dims_of, names_class}
 use Rattle.cc_meaning_program.specs.Named.{text_of, type_name}
 use Rattle.cc_meaning_program.specs.ClassNames.{base_name}
 use Rattle.cc_meaning_program.specs.TypeNames.{base_spelled, IsBase, IsTypeOf, SpellsByParts}

@@ -2,7 +2,7 @@
 use Rattle.std.specs.Prelude.{ℕ, if◌then◌else◌, List, [], ◌∷◌, ◌++◌, map, unwrap_or, slice_get}
 use Rattle.cc_meaning.specs.declared.file.Ids.{Ids}
 use Rattle.cc_meaning.specs.BuiltIn.{BuiltInClass, built_in_classes}
-use Rattle.cc_meaning_file.specs.Descriptors.{names_class, names_reference}
+use Rattle.cc_meaning_dex.specs.Descriptors.{names_class, names_reference}
 use Rattle.cc_meaning_program.specs.Named.{text_of}
 use Rattle.cc_meaning_program.specs.ClassNames.{base_name, texts_name}
 use Rattle.cc_names.specs.declared.classes.Candidate.{Candidate}

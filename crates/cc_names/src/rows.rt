@@ -1,7 +1,7 @@
 //! The texts and descriptors of rows.
 
 ghost use Rattle.std.specs.Prelude.{◌≡◌, ◌≤◌, ◌<◌, ◌↔◌, ℕ, Contains, length, IfOk};
-ghost use Rattle.cc_meaning_file.specs.Descriptors.{dims_of, names_class, names_reference};
+ghost use Rattle.cc_meaning_dex.specs.Descriptors.{dims_of, names_class, names_reference};
 ghost use Rattle.cc_meaning_program.specs.Named.{text_of, type_name};
 ghost use Rattle.cc_meaning_program.specs.ClassNames.{base_name};
 

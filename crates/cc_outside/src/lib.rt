@@ -11,6 +11,3 @@ pub use memory_shelf::MemoryShelf;
 pub use memory_sink::MemorySink;
 pub use shelf::{ReadEnd, Shelf, ShelfEnd};
 pub use sink::{Sink, WriteFailed};
-
-#[cfg(test)]
-mod tests;

@@ -1,8 +1,8 @@
 -- Interfaces, each followed by those above it.
 use Rattle.std.proofs.Common.{◌≡◌, ◌⊎◌, inl, inr, ℕ, suc, ◌+◌, List, [], ◌∷◌, ◌++◌, length, refl, sym, ap, subst, ◌∙◌, arith}
 use Rattle.cc_meaning.specs.declared.file.Ids.{Ids}
-use Rattle.cc_meaning_resolution.specs.Ancestry.{interfaces_named, Superinterfaces, none, next}
-use Rattle.cc_meaning_resolution.specs.Searches.{NoneOf}
+use Rattle.cc_meaning_program.specs.Ancestry.{interfaces_named, Superinterfaces, none, next}
+use Rattle.cc_meaning_program.specs.Searches.{NoneOf}
 use Rattle.cc_owners.proofs.Lists.{Among, Parted, parted, together, length_both, InFirst, InSecond, which, none_in_front, none_behind, not_this}
 
 pub both : (ids : Ids) (xs ys above behind : List (List ℕ)) → Superinterfaces ids xs above → Superinterfaces ids ys behind → Superinterfaces ids (xs ++ ys) (above ++ behind)

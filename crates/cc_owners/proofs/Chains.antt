@@ -4,9 +4,9 @@ use Rattle.std.specs.List.{flat_map}
 use Rattle.std.proofs.lemmas.Grind.{flat_map-append}
 use Rattle.std.proofs.lemmas.List.{take_all}
 use Rattle.std.proofs.lemmas.List.Concat.{flat_map-cons}
-use Rattle.cc_meaning_resolution.specs.Ancestry.{interfaces_named, Superinterfaces}
-use Rattle.cc_meaning_resolution.specs.Searches.{NoneOf}
-use Rattle.cc_meaning_linking.specs.Climbing.{InterfacesHaveLists}
+use Rattle.cc_meaning_program.specs.Ancestry.{interfaces_named, Superinterfaces}
+use Rattle.cc_meaning_program.specs.Searches.{NoneOf}
+use Rattle.cc_meaning_program.specs.SoundClimbing.{InterfacesHaveLists}
 use Rattle.cc_owners.specs.declared.linked.Linked.{Linked}
 use Rattle.cc_owners.specs.declared.place.Found.{Found}
 use Rattle.cc_owners.specs.Entered.{AreOlder, OnlyMarked, AreEntered, IsFoundAbove, IsFoundInMethodOrder}

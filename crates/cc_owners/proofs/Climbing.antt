@@ -6,10 +6,10 @@ use Rattle.std.proofs.lemmas.Map.Steps.{length-le_from_distinct_below}
 use Rattle.std.proofs.lemmas.Option.{slice_get-get_or, slice_get_within}
 use Rattle.cc_meaning.specs.declared.file.Ids.{Ids}
 use Rattle.cc_meaning_program.specs.Named.{type_name}
-use Rattle.cc_meaning_resolution.specs.Ancestry.{superclass_named, Ancestry, top, up}
-use Rattle.cc_meaning_linking.specs.declared.outline.Outline.{Outline}
-use Rattle.cc_meaning_linking.specs.Climbing.{ClassesHaveAncestries}
-use Rattle.cc_meaning_linking.specs.Outlines.{IsNumberOf, AreNumbersOf}
+use Rattle.cc_meaning_program.specs.Ancestry.{superclass_named, Ancestry, top, up}
+use Rattle.cc_meaning_program.specs.declared.outline.Outline.{Outline}
+use Rattle.cc_meaning_program.specs.SoundClimbing.{ClassesHaveAncestries}
+use Rattle.cc_meaning_program.specs.Outlines.{IsNumberOf, AreNumbersOf}
 use Rattle.cc_owners.specs.declared.linked.Linked.{Linked}
 use Rattle.cc_owners.specs.Known.{IsKnown, AreAncestors}
 use Rattle.cc_owners.proofs.Lists.{Among, first, later, some_is, parted, together, length_both, numbers_both}

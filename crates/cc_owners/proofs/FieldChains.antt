@@ -4,9 +4,9 @@ use Rattle.std.proofs.lemmas.List.{take_all}
 use Rattle.cc_meaning.specs.declared.file.Ids.{Ids}
 use Rattle.cc_meaning.specs.declared.file.RawClass.{RawClass}
 use Rattle.cc_meaning_program.specs.ClassFaults.{AreSound}
-use Rattle.cc_meaning_resolution.specs.Ancestry.{interfaces_named, Ancestry, top, up}
-use Rattle.cc_meaning_resolution.specs.Searches.{First, NoneOf, FieldOrder}
-use Rattle.cc_meaning_linking.specs.Climbing.{InterfacesHaveLists}
+use Rattle.cc_meaning_program.specs.Ancestry.{interfaces_named, Ancestry, top, up}
+use Rattle.cc_meaning_program.specs.Searches.{First, NoneOf, FieldOrder}
+use Rattle.cc_meaning_program.specs.SoundClimbing.{InterfacesHaveLists}
 use Rattle.cc_owners.specs.declared.linked.Linked.{Linked}
 use Rattle.cc_owners.specs.declared.place.Found.{Found}
 use Rattle.cc_owners.specs.Entered.{AreEntered, IsFoundAbove}

@@ -8,13 +8,13 @@ use Rattle.cc_meaning.specs.declared.file.Ids.{Ids}
 use Rattle.cc_meaning.specs.declared.file.RawClass.{RawClass}
 use Rattle.cc_meaning.specs.declared.file.RawField.{RawField}
 use Rattle.cc_meaning_program.specs.Named.{type_name, field_member}
-use Rattle.cc_meaning_resolution.specs.Ancestry.{Ancestry}
-use Rattle.cc_meaning_resolution.specs.Declared.{members_of, field_among, field_defined}
-use Rattle.cc_meaning_resolution.specs.Owners.{DefinesField, FieldOwner}
-use Rattle.cc_meaning_resolution.specs.Searches.{First}
-use Rattle.cc_meaning_linking.specs.declared.owner.FieldOwner.{FieldOwner as Owner}
-use Rattle.cc_meaning_linking.specs.declared.owner.FieldOwner.TheVariants as field
-use Rattle.cc_meaning_linking.specs.Owners.{field_in, field_placed, IsFieldOwner, AreFieldOwners}
+use Rattle.cc_meaning_program.specs.Ancestry.{Ancestry}
+use Rattle.cc_meaning_program.specs.OwnMembers.{members_of, field_among, field_defined}
+use Rattle.cc_meaning_program.specs.Owners.{DefinesField, FieldOwner}
+use Rattle.cc_meaning_program.specs.Searches.{First}
+use Rattle.cc_meaning_program.specs.declared.owner.FieldOwner.{FieldOwner as Owner}
+use Rattle.cc_meaning_program.specs.declared.owner.FieldOwner.TheVariants as field
+use Rattle.cc_meaning_program.specs.OwnerNumbers.{field_in, field_placed, IsFieldOwner, AreFieldOwners}
 use Rattle.cc_owners.specs.declared.linked.Linked.{Linked}
 use Rattle.cc_owners.specs.declared.members.MemberTable.TheVariants.{Fields}
 use Rattle.cc_owners.specs.declared.place.Found.{Found}

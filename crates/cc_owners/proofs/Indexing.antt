@@ -23,7 +23,7 @@ use Rattle.cc_meaning.specs.declared.file.RawMethod.{RawMethod}
 use Rattle.cc_meaning.specs.Order.{IsRising}
 use Rattle.cc_meaning_program.specs.ClassFaults.{AreSound, Repeats, of_field, of_method}
 use Rattle.cc_meaning_program.specs.Named.{type_name, field_member, method_member}
-use Rattle.cc_meaning_resolution.specs.Declared.{members_of}
+use Rattle.cc_meaning_program.specs.OwnMembers.{members_of}
 use Rattle.cc_names.specs.InOrder.{AreInOrder}
 use Rattle.cc_owners.specs.declared.index.Entry.{Entry}
 use Rattle.cc_owners.specs.declared.members.MemberTable.{MemberTable}

@@ -1,8 +1,8 @@
 -- What stands in lists, and the first that is so.
 use Rattle.std.proofs.Common.{◌≡◌, ◌⊎◌, inl, inr, ℕ, zero, suc, ◌+◌, ◌<◌, ◌≤◌, List, [], ◌∷◌, ◌++◌, length, get_or, map, take, Some, slice_get, refl, sym, ap, subst, ◌∙◌, arith}
 use Rattle.std.proofs.lemmas.List.{length-map}
-use Rattle.cc_meaning_resolution.specs.Searches.{First, NoneOf}
-use Rattle.cc_meaning_linking.specs.Outlines.{AreNumbersOf}
+use Rattle.cc_meaning_program.specs.Searches.{First, NoneOf}
+use Rattle.cc_meaning_program.specs.Outlines.{AreNumbersOf}
 
 pub data Among {A : Type 0} : List A → A → Type 0 where
   first : {x : A} {xs : List A} → Among (x ∷ xs) x

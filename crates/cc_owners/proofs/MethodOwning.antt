@@ -12,14 +12,14 @@ use Rattle.cc_meaning.specs.declared.program.ClassKind.{ClassKind}
 use Rattle.cc_meaning.specs.declared.program.ClassKind.TheVariants.{File, BuiltIn, Outside, OutsideError, Array}
 use Rattle.cc_meaning_run.specs.BuiltInMethods.{BuiltInMethod}
 use Rattle.cc_meaning_program.specs.Named.{type_name, method_member}
-use Rattle.cc_meaning_resolution.specs.Ancestry.{kind_of_class, interfaces_named, Ancestry, Superinterfaces}
-use Rattle.cc_meaning_resolution.specs.Declared.{members_of, method_among, method_defined, built_in_member, built_in_by_kind, built_in_methods_of, method_listed}
-use Rattle.cc_meaning_resolution.specs.Naming.{RowNamesMethod}
-use Rattle.cc_meaning_resolution.specs.Owners.{IsBeyond, DefinesMethod, inherits, Lists, MethodOwner}
-use Rattle.cc_meaning_resolution.specs.Searches.{First, NoneOf, MethodOrder}
-use Rattle.cc_meaning_linking.specs.declared.owner.MethodOwner.{MethodOwner as Owner}
-use Rattle.cc_meaning_linking.specs.declared.owner.MethodOwner.TheVariants as method
-use Rattle.cc_meaning_linking.specs.Owners.{method_in, method_placed, IsMethodOwner, AreMethodOwners}
+use Rattle.cc_meaning_program.specs.Ancestry.{kind_of_class, interfaces_named, Ancestry, Superinterfaces}
+use Rattle.cc_meaning_program.specs.OwnMembers.{members_of, method_among, method_defined, built_in_member, built_in_by_kind, built_in_methods_of, method_listed}
+use Rattle.cc_meaning_program.specs.Naming.{RowNamesMethod}
+use Rattle.cc_meaning_program.specs.Owners.{IsBeyond, DefinesMethod, inherits, Lists, MethodOwner}
+use Rattle.cc_meaning_program.specs.Searches.{First, NoneOf, MethodOrder}
+use Rattle.cc_meaning_program.specs.declared.owner.MethodOwner.{MethodOwner as Owner}
+use Rattle.cc_meaning_program.specs.declared.owner.MethodOwner.TheVariants as method
+use Rattle.cc_meaning_program.specs.OwnerNumbers.{method_in, method_placed, IsMethodOwner, AreMethodOwners}
 use Rattle.cc_owners.specs.declared.linked.Linked.{Linked}
 use Rattle.cc_owners.specs.declared.members.MemberTable.TheVariants.{Methods}
 use Rattle.cc_owners.specs.declared.place.Found.{Found}

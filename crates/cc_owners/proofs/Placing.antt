@@ -2,10 +2,10 @@
 use Rattle.std.proofs.Common.{◌≡◌, ℕ, Option, Some, None, Bool, true, false, not, List, [], ◌∷◌, map, slice_get, option_and_then, refl, sym, ap, subst, ◌∙◌}
 use Rattle.std.specs.Prelude.{is_some, Contains}
 use Rattle.std.specs.Bool.{OnTrue, OnFalse}
-use Rattle.cc_meaning_resolution.specs.Declared.{members_of}
-use Rattle.cc_meaning_resolution.specs.Searches.{NoneOf}
-use Rattle.cc_meaning_linking.specs.declared.outline.Outline.{Outline}
-use Rattle.cc_meaning_linking.specs.Outlines.{definition_number}
+use Rattle.cc_meaning_program.specs.OwnMembers.{members_of}
+use Rattle.cc_meaning_program.specs.Searches.{NoneOf}
+use Rattle.cc_meaning_program.specs.declared.outline.Outline.{Outline}
+use Rattle.cc_meaning_program.specs.Outlines.{definition_number}
 use Rattle.cc_owners.specs.declared.linked.Linked.{Linked}
 use Rattle.cc_owners.specs.Known.{IsKnown, Has}
 use Rattle.cc_owners.specs.Members.{member_of}

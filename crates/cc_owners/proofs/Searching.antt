@@ -4,11 +4,11 @@ use Rattle.std.specs.Prelude.{Contains, reverse, slice_set}
 use Rattle.std.proofs.lemmas.Bool.Decides.{Decides-eqb}
 use Rattle.std.proofs.lemmas.List.{reverse-append, reverse-reverse, length-reverse}
 use Rattle.std.proofs.lemmas.Option.{slice_get-get_or, slice_get_within}
-use Rattle.cc_meaning_resolution.specs.Ancestry.{interfaces_named, Superinterfaces}
-use Rattle.cc_meaning_resolution.specs.Searches.{First, NoneOf}
-use Rattle.cc_meaning_linking.specs.declared.outline.Outline.{Outline}
-use Rattle.cc_meaning_linking.specs.Climbing.{InterfacesHaveLists}
-use Rattle.cc_meaning_linking.specs.Outlines.{AreNumbersOf}
+use Rattle.cc_meaning_program.specs.Ancestry.{interfaces_named, Superinterfaces}
+use Rattle.cc_meaning_program.specs.Searches.{First, NoneOf}
+use Rattle.cc_meaning_program.specs.declared.outline.Outline.{Outline}
+use Rattle.cc_meaning_program.specs.SoundClimbing.{InterfacesHaveLists}
+use Rattle.cc_meaning_program.specs.Outlines.{AreNumbersOf}
 use Rattle.cc_owners.specs.declared.linked.Linked.{Linked}
 use Rattle.cc_owners.specs.Entered.{OnlyMarked, AreEntered, IsFoundAbove}
 use Rattle.cc_owners.specs.Known.{IsKnown, Has, IsFound}

@@ -2,12 +2,12 @@
 use Rattle.std.specs.Prelude.{◌≡◌, ℕ, true, false, List, map, take, position, slice_get, Option, Some, is_some}
 use Rattle.std.specs.Str.{bytes_eq}
 use Rattle.cc_meaning.specs.declared.file.Ids.{Ids}
-use Rattle.cc_meaning_resolution.specs.Ancestry.{is_defined, Ancestry}
-use Rattle.cc_meaning_resolution.specs.Declared.{built_in_member, built_in_methods_of}
-use Rattle.cc_meaning_resolution.specs.Owners.{IsBeyond, Lists}
-use Rattle.cc_meaning_resolution.specs.Searches.{First, NoneOf}
-use Rattle.cc_meaning_linking.specs.declared.owner.MethodOwner.{MethodOwner}
-use Rattle.cc_meaning_linking.specs.declared.owner.MethodOwner.TheVariants as method
+use Rattle.cc_meaning_program.specs.Ancestry.{is_defined, Ancestry}
+use Rattle.cc_meaning_program.specs.OwnMembers.{built_in_member, built_in_methods_of}
+use Rattle.cc_meaning_program.specs.Owners.{IsBeyond, Lists}
+use Rattle.cc_meaning_program.specs.Searches.{First, NoneOf}
+use Rattle.cc_meaning_program.specs.declared.owner.MethodOwner.{MethodOwner}
+use Rattle.cc_meaning_program.specs.declared.owner.MethodOwner.TheVariants as method
 use Rattle.cc_owners.specs.declared.linked.Linked.{Linked}
 use Rattle.cc_owners.specs.declared.place.Found.{Found}
 

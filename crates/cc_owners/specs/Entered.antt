@@ -1,8 +1,8 @@
 -- The interfaces that a search has entered, and what it finds.
 use Rattle.std.specs.Prelude.{◌≡◌, ◌⊎◌, ℕ, ◌<◌, List, ◌++◌, Contains, slice_get, Option, Some, None}
 use Rattle.std.specs.List.{flat_map}
-use Rattle.cc_meaning_resolution.specs.Ancestry.{interfaces_named, Superinterfaces}
-use Rattle.cc_meaning_resolution.specs.Searches.{NoneOf}
+use Rattle.cc_meaning_program.specs.Ancestry.{interfaces_named, Superinterfaces}
+use Rattle.cc_meaning_program.specs.Searches.{NoneOf}
 use Rattle.cc_owners.specs.declared.linked.Linked.{Linked}
 use Rattle.cc_owners.specs.declared.place.Found.{Found}
 use Rattle.cc_owners.specs.Known.{Has, IsFound}

@@ -1,8 +1,8 @@
 -- The order in which classes are searched for a field, and what is found.
 use Rattle.std.specs.Prelude.{ℕ, List, [], ◌∷◌, ◌++◌, Option, Some, None}
 use Rattle.cc_meaning.specs.declared.file.Ids.{Ids}
-use Rattle.cc_meaning_resolution.specs.Ancestry.{interfaces_named, Superinterfaces}
-use Rattle.cc_meaning_resolution.specs.Searches.{NoneOf}
+use Rattle.cc_meaning_program.specs.Ancestry.{interfaces_named, Superinterfaces}
+use Rattle.cc_meaning_program.specs.Searches.{NoneOf}
 use Rattle.cc_owners.specs.declared.linked.Linked.{Linked}
 use Rattle.cc_owners.specs.declared.place.Found.{Found}
 use Rattle.cc_owners.specs.Entered.{AreEntered}

@@ -2,9 +2,9 @@
 use Rattle.std.specs.Prelude.{◌≡◌, ℕ, true, List, slice_get, Some, is_some}
 use Rattle.cc_meaning_program.specs.ClassFaults.{AreSound}
 use Rattle.cc_meaning_program.specs.ClassNames.{AreClassNames}
-use Rattle.cc_meaning_resolution.specs.Ancestry.{Ancestry}
-use Rattle.cc_meaning_resolution.specs.Searches.{First}
-use Rattle.cc_meaning_linking.specs.Outlines.{AreNumbersOf, AreOutlines}
+use Rattle.cc_meaning_program.specs.Ancestry.{Ancestry}
+use Rattle.cc_meaning_program.specs.Searches.{First}
+use Rattle.cc_meaning_program.specs.Outlines.{AreNumbersOf, AreOutlines}
 use Rattle.cc_owners.specs.declared.linked.Linked.{Linked}
 use Rattle.cc_owners.specs.declared.place.Found.{Found}
 use Rattle.cc_owners.specs.Index.{AreEntries, AreDefinedRows}

@@ -5,7 +5,7 @@ use Rattle.cc_meaning.specs.declared.file.Ids.{Ids}
 use Rattle.cc_meaning.specs.declared.file.RawClass.{RawClass}
 use Rattle.cc_meaning.specs.declared.file.RawField.{RawField}
 use Rattle.cc_meaning.specs.declared.file.RawMethod.{RawMethod}
-use Rattle.cc_meaning_resolution.specs.Declared.{members_of}
+use Rattle.cc_meaning_program.specs.OwnMembers.{members_of}
 use Rattle.cc_owners.specs.declared.members.MemberTable.{MemberTable}
 use Rattle.cc_owners.specs.declared.members.MemberTable.TheVariants.{Fields, Methods}
 use Rattle.cc_owners.specs.Members.{member_of}

@@ -1,10 +1,10 @@
 //! Methods that the file doesn't define: built-in ones, and those of classes outside.
 
 ghost use Rattle.std.specs.Prelude.{◌≡◌, ◌<◌, ◌∷◌, ℕ, Bool, List, length, take, slice_get, Some, Contains, MatchOption, cond};
-ghost use Rattle.cc_meaning_resolution.specs.Ancestry.{Ancestry};
-ghost use Rattle.cc_meaning_resolution.specs.Searches.{NoneOf};
-ghost use Rattle.cc_meaning_resolution.specs.Owners.{Lists};
-ghost use Rattle.cc_meaning_linking.specs.Outlines.{AreNumbersOf};
+ghost use Rattle.cc_meaning_program.specs.Ancestry.{Ancestry};
+ghost use Rattle.cc_meaning_program.specs.Searches.{NoneOf};
+ghost use Rattle.cc_meaning_program.specs.Owners.{Lists};
+ghost use Rattle.cc_meaning_program.specs.Outlines.{AreNumbersOf};
 ghost use Rattle.cc_owners.specs.Beyond.{listed_place, IsUndefined, IsFirstBeyond, Listed, IsListed, IsFoundListed, IsBeyondOwner};
 ghost use Rattle.cc_owners.specs.Known.{IsKnown, AreAncestors};
 
@@ -13,7 +13,7 @@ use crate::linked::Linked;
 use crate::place::Found;
 use cc_meaning::lists::ClassIx;
 use cc_meaning::program::ClassKind;
-use cc_meaning_linking::MethodOwner;
+use cc_meaning_program::MethodOwner;
 
 /// The place of a name among those of the built-in methods that a class lists.
 fn listed_in(linked: &Linked<'_>, class: ClassIx, member: &[u16]) -> Option<u32>

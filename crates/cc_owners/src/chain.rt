@@ -2,16 +2,16 @@
 
 ghost use Rattle.std.specs.Prelude.{◌≡◌, ◌<◌, ℕ, List, length, Contains, IfOk, OnOk};
 ghost use Rattle.std.specs.List.{flat_map};
-ghost use Rattle.cc_meaning_resolution.specs.Ancestry.{interfaces_named};
-ghost use Rattle.cc_meaning_linking.specs.Outlines.{AreNumbersOf};
+ghost use Rattle.cc_meaning_program.specs.Ancestry.{interfaces_named};
+ghost use Rattle.cc_meaning_program.specs.Outlines.{AreNumbersOf};
 ghost use Rattle.cc_owners.specs.Known.{IsKnown};
 ghost use Rattle.cc_owners.specs.Entered.{AreOlder, OnlyMarked, AreEntered, IsFoundAbove, IsFoundInMethodOrder};
 
 use crate::linked::Linked;
 use crate::place::{Found, first_among, is_nowhere};
 use crate::search::{Marks, first_above};
-use cc_linking_laws::interfaces_have_lists;
 use cc_meaning::lists::ClassIx;
+use cc_program_laws::interfaces_have_lists;
 use std::alloc::{AllocError, Global};
 
 /// The first of the interfaces that these classes name, each followed by those above it, in which the file defines the member of a row's name.

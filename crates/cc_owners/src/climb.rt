@@ -1,17 +1,17 @@
 //! Superclasses.
 
 ghost use Rattle.std.specs.Prelude.{◌≡◌, ◌<◌, ◌^◌, length, slice_get, Some, IfOk};
-ghost use Rattle.cc_meaning_file.specs.Descriptors.{names_reference};
+ghost use Rattle.cc_meaning_dex.specs.Descriptors.{names_reference};
 ghost use Rattle.cc_meaning_program.specs.Named.{type_name};
-ghost use Rattle.cc_meaning_linking.specs.Rows.{IsTypeRow};
+ghost use Rattle.cc_meaning_program.specs.Rows.{IsTypeRow};
 ghost use Rattle.cc_owners.specs.Known.{IsKnown, AreAncestors};
 
 use crate::linked::Linked;
 use crate::names::type_name;
-use cc_linking_laws::classes_have_ancestries;
 use cc_list::List;
 use cc_meaning::lists::{ClassIx, ClassList};
 use cc_names::find;
+use cc_program_laws::classes_have_ancestries;
 use std::alloc::{AllocError, Global};
 
 /// The number of the class or array that a row of types names.

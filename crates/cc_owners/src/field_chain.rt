@@ -1,7 +1,7 @@
 //! Members that the file defines in a class, in its interfaces, and then in its superclass in the same way.
 
 ghost use Rattle.std.specs.Prelude.{◌≡◌, ◌<◌, ℕ, List, length, slice_get, Some, Contains, IfOk, OnOk};
-ghost use Rattle.cc_meaning_linking.specs.Outlines.{AreNumbersOf};
+ghost use Rattle.cc_meaning_program.specs.Outlines.{AreNumbersOf};
 ghost use Rattle.cc_owners.specs.Known.{IsKnown};
 ghost use Rattle.cc_owners.specs.Entered.{AreOlder, OnlyMarked, AreEntered};
 ghost use Rattle.cc_owners.specs.Fields.{IsFoundAt, IsFoundInFieldOrder};
@@ -9,8 +9,8 @@ ghost use Rattle.cc_owners.specs.Fields.{IsFoundAt, IsFoundInFieldOrder};
 use crate::linked::Linked;
 use crate::place::{Found, is_nowhere, place_in};
 use crate::search::{Marks, first_above};
-use cc_linking_laws::interfaces_have_lists;
 use cc_meaning::lists::ClassIx;
+use cc_program_laws::interfaces_have_lists;
 use std::alloc::{AllocError, Global};
 
 /// The first of a class and its interfaces, each followed by those above it, in which the file defines the member of a row's name.

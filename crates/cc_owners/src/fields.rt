@@ -2,12 +2,12 @@
 
 ghost use Rattle.std.specs.Prelude.{◌≡◌, ◌<◌, ◌^◌, List, ℕ, length, slice_get, Some, IfOk, OnOk};
 ghost use Rattle.cc_meaning.specs.declared.file.FieldRow.{FieldRow};
-ghost use Rattle.cc_meaning_file.specs.Descriptors.{names_reference};
+ghost use Rattle.cc_meaning_dex.specs.Descriptors.{names_reference};
 ghost use Rattle.cc_meaning_program.specs.ClassFaults.{AreSound};
 ghost use Rattle.cc_meaning_program.specs.ClassNames.{AreClassNames};
-ghost use Rattle.cc_meaning_linking.specs.Outlines.{AreOutlines};
-ghost use Rattle.cc_meaning_linking.specs.Owners.{IsFieldOwner, AreFieldOwners};
-ghost use Rattle.cc_meaning_linking.specs.Rows.{IsTypeRow, FitTables, FitClasses};
+ghost use Rattle.cc_meaning_program.specs.Outlines.{AreOutlines};
+ghost use Rattle.cc_meaning_program.specs.OwnerNumbers.{IsFieldOwner, AreFieldOwners};
+ghost use Rattle.cc_meaning_program.specs.Rows.{IsTypeRow, FitTables, FitClasses};
 ghost use Rattle.cc_owners.specs.declared.members.MemberTable.TheVariants as table;
 ghost use Rattle.cc_owners.specs.Entered.{AreOlder, OnlyMarked};
 ghost use Rattle.cc_owners.specs.Known.{IsKnown};
@@ -23,7 +23,7 @@ use cc_list::List;
 use cc_meaning::fault::Memory;
 use cc_meaning::file::{Ids, RawClasses};
 use cc_meaning::lists::Texts;
-use cc_meaning_linking::{FieldOwner, FieldOwners, Outlines};
+use cc_meaning_program::{FieldOwner, FieldOwners, Outlines};
 use std::alloc::{AllocError, Global};
 
 /// What a row of fields names, which names a class by this row of types.

@@ -5,7 +5,7 @@ use crate::members::MemberTable;
 use cc_list::List;
 use cc_meaning::file::{Ids, RawClasses};
 use cc_meaning::lists::{Rows, Texts};
-use cc_meaning_linking::Outlines;
+use cc_meaning_program::Outlines;
 
 /// A file's tables and classes, the names and outlines of its program's classes in number order, and the members of a table that the file defines, with a row
 /// for each of their names.

@@ -2,13 +2,13 @@
 
 ghost use Rattle.std.specs.Prelude.{◌≡◌, ◌<◌, ◌^◌, ◌+◌, ℕ, List, length, slice_get, Some, IfOk, OnOk};
 ghost use Rattle.cc_meaning.specs.declared.file.MethodRow.{MethodRow};
-ghost use Rattle.cc_meaning_file.specs.Descriptors.{names_reference};
+ghost use Rattle.cc_meaning_dex.specs.Descriptors.{names_reference};
 ghost use Rattle.cc_meaning_program.specs.ClassFaults.{AreSound};
 ghost use Rattle.cc_meaning_program.specs.ClassNames.{AreClassNames};
 ghost use Rattle.cc_meaning_program.specs.Named.{type_name};
-ghost use Rattle.cc_meaning_linking.specs.Outlines.{AreOutlines};
-ghost use Rattle.cc_meaning_linking.specs.Owners.{IsMethodOwner, AreMethodOwners};
-ghost use Rattle.cc_meaning_linking.specs.Rows.{IsTypeRow, FitTables, FitClasses};
+ghost use Rattle.cc_meaning_program.specs.Outlines.{AreOutlines};
+ghost use Rattle.cc_meaning_program.specs.OwnerNumbers.{IsMethodOwner, AreMethodOwners};
+ghost use Rattle.cc_meaning_program.specs.Rows.{IsTypeRow, FitTables, FitClasses};
 ghost use Rattle.cc_owners.specs.declared.members.MemberTable.TheVariants as table;
 ghost use Rattle.cc_owners.specs.Entered.{AreOlder, OnlyMarked};
 ghost use Rattle.cc_owners.specs.Known.{IsKnown};
@@ -24,7 +24,7 @@ use cc_list::List;
 use cc_meaning::fault::Memory;
 use cc_meaning::file::{Ids, RawClasses};
 use cc_meaning::lists::Texts;
-use cc_meaning_linking::{MethodOwner, MethodOwners, Outlines};
+use cc_meaning_program::{MethodOwner, MethodOwners, Outlines};
 use std::alloc::{AllocError, Global};
 
 /// What a row of methods names, which names a class by this row of types.

@@ -2,8 +2,8 @@
 
 ghost use Rattle.std.specs.Prelude.{◌≡◌, ◌<◌, ℕ, List, length, slice_get, Some, Contains, MatchOption};
 ghost use Rattle.std.specs.Bool.{OnTrue};
-ghost use Rattle.cc_meaning_resolution.specs.Searches.{NoneOf};
-ghost use Rattle.cc_meaning_linking.specs.Outlines.{AreNumbersOf};
+ghost use Rattle.cc_meaning_program.specs.Searches.{NoneOf};
+ghost use Rattle.cc_meaning_program.specs.Outlines.{AreNumbersOf};
 ghost use Rattle.cc_owners.specs.Known.{IsKnown, Has, IsFound};
 ghost use Rattle.cc_owners.specs.Members.{member_of};
 ghost use Rattle.cc_owners.specs.Places.{place_of};

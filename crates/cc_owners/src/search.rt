@@ -1,15 +1,15 @@
 //! Interfaces, searched one after the other, each followed by those above it.
 
 ghost use Rattle.std.specs.Prelude.{◌≡◌, ◌<◌, ◌++◌, ℕ, List, length, reverse, Contains, IfOk, OnOk};
-ghost use Rattle.cc_meaning_linking.specs.Outlines.{AreNumbersOf};
+ghost use Rattle.cc_meaning_program.specs.Outlines.{AreNumbersOf};
 ghost use Rattle.cc_owners.specs.Known.{IsKnown};
 ghost use Rattle.cc_owners.specs.Entered.{AreOlder, OnlyMarked, AreEntered, IsFoundAbove};
 
 use crate::linked::Linked;
 use crate::place::{Found, place_in};
-use cc_linking_laws::interfaces_have_lists;
 use cc_list::List;
 use cc_meaning::lists::{ClassIx, ClassList};
+use cc_program_laws::interfaces_have_lists;
 use std::alloc::{AllocError, Global};
 
 /// For each class the number of the last search that has entered it.

@@ -1,7 +1,7 @@
 -- The reader of a code item: where the instructions use what isn't set, no plain code stands.
 use Rattle.std.proofs.Common.{◌≡◌, ◌↔◌, ◌+◌, ℕ, List, subst, sym, ◌∙◌}
 use Rattle.cc_meaning.specs.Order.{IsRising}
-use Rattle.cc_meaning_file.specs.Numbers.{u16_at, u32_at}
+use Rattle.cc_meaning_dex.specs.Numbers.{u16_at, u32_at}
 use Rattle.cc_meaning_plain.specs.declared.plain.PlainInsn.{PlainInsn}
 use Rattle.cc_meaning_plain.specs.declared.plain.Last.{Last}
 use Rattle.cc_meaning_plain.specs.declared.plain.Last.TheVariants.{ReturnVoid, Return}

@@ -1,8 +1,8 @@
 -- Numbers of the class data that stand one after the other.
 use Rattle.std.proofs.Common.{◌≡◌, ◌↔◌, ℕ, ◌+◌, ◌<◌, List, [], ◌∷◌, ◌++◌, length, refl, ap, sym, subst, ◌∙◌, ◌≤◌, arith, append_assoc, append-nil}
 use Rattle.std.proofs.lemmas.List.{length-append}
-use Rattle.cc_meaning_file.specs.Leb128.{SpellsUleb}
-use Rattle.cc_meaning_file.specs.Laws.{OneUleb}
+use Rattle.cc_meaning_dex.specs.Leb128.{SpellsUleb}
+use Rattle.cc_meaning_dex.specs.TextLaws.{OneUleb}
 use Rattle.cc_meaning_plain.specs.declared.table.Table.TheVariants.{Methods}
 use Rattle.cc_meaning_plain.specs.declared.plain.Member.{Member}
 use Rattle.cc_meaning_plain.specs.Tables.{IsRow, row_count}

@@ -3,7 +3,7 @@ use Rattle.std.proofs.Common.{◌≡◌, ◌↔◌, inl, inr, ℕ, ◌+◌, Bool
 use Rattle.std.specs.List.Sorted.{IsPermutation}
 use Rattle.std.proofs.lemmas.List.Sorted.{IsPermutation-sym, IsPermutation-trans}
 use Rattle.cc_meaning.specs.Order.{IsRising}
-use Rattle.cc_meaning_file.specs.Numbers.{u32_at}
+use Rattle.cc_meaning_dex.specs.Numbers.{u32_at}
 use Rattle.cc_meaning_plain.specs.declared.plain.Member.{Member}
 use Rattle.cc_meaning_plain.specs.declared.plain.PlainCode.{PlainCode}
 use Rattle.cc_meaning_plain.specs.declared.plain.PlainFunction.{PlainFunction}

@@ -1,7 +1,7 @@
 -- A row below its table's count lies in the file.
 use Rattle.std.proofs.Common.{◌≡◌, ◌⊎◌, inl, inr, ℕ, ◌+◌, ◌*◌, ◌<◌, ◌≤◌, List, length, arith}
 use Rattle.std.proofs.lemmas.Nat.{mul-le}
-use Rattle.cc_meaning_file.specs.Numbers.{Within}
+use Rattle.cc_meaning_dex.specs.Numbers.{Within}
 use Rattle.cc_meaning_plain.specs.declared.table.Table.{Table}
 use Rattle.cc_meaning_plain.specs.declared.table.Table.TheVariants.{Texts, Types, Prototypes, Fields, Methods, Classes}
 use Rattle.cc_meaning_plain.specs.Tables.{row_bytes, row_count, table_at, row_at, HasTables, IsRow, StandsInFile}

@@ -5,11 +5,11 @@ use Rattle.std.proofs.lemmas.Bool.Decides.{nat_tests}
 use Rattle.std.proofs.lemmas.List.Elements.{All-nil, All-cons}
 use Rattle.std.specs.declared.alloc.AllocError.{AllocError}
 use Rattle.std.proofs.lemmas.Result.{IfOk-weaker}
-use Rattle.cc_meaning_file.specs.Numbers.{u16_at, u32_at, Stands}
-use Rattle.cc_meaning_file.specs.Leb128.{SpellsUleb}
-use Rattle.cc_meaning_file.specs.Mutf8.{unit_form, mutf8_bytes}
-use Rattle.cc_meaning_file.specs.Texts.{SpellsText}
-use Rattle.cc_meaning_file.specs.Laws.{OneUleb}
+use Rattle.cc_meaning_dex.specs.Numbers.{u16_at, u32_at, Stands}
+use Rattle.cc_meaning_dex.specs.Leb128.{SpellsUleb}
+use Rattle.cc_meaning_dex.specs.Mutf8.{unit_form, mutf8_bytes}
+use Rattle.cc_meaning_dex.specs.Texts.{SpellsText}
+use Rattle.cc_meaning_dex.specs.TextLaws.{OneUleb}
 use Rattle.cc_meaning_plain.specs.declared.table.Table.TheVariants.{Texts, Types, Methods}
 use Rattle.cc_meaning_plain.specs.Tables.{row_at, IsRow}
 use Rattle.cc_meaning_plain.specs.Names.{TextRow, TypeRow, PrototypeRow, IsFunction}

@@ -2,7 +2,7 @@
 use Rattle.std.specs.Prelude.{◌≡◌, ◌≢◌, ℕ, ◌+◌, ◌≤◌, List, [], ◌∷◌, Some, map, length}
 use Rattle.std.specs.List.Sorted.{IsPermutation}
 use Rattle.cc_meaning.specs.Order.{IsRising}
-use Rattle.cc_meaning_file.specs.Numbers.{u32_at}
+use Rattle.cc_meaning_dex.specs.Numbers.{u32_at}
 use Rattle.cc_meaning_plain.specs.declared.table.Table.TheVariants.{Methods, Classes}
 use Rattle.cc_meaning_plain.specs.declared.plain.Member.{Member}
 use Rattle.cc_meaning_plain.specs.declared.plain.PlainFunction.{PlainFunction}

@@ -1,6 +1,6 @@
 -- What is found where code may stand.
 use Rattle.std.specs.Prelude.{◌≡◌, ℕ, ◌+◌, ◌≤◌, List, map, Option, MatchOption}
-use Rattle.cc_meaning_file.specs.Numbers.{u16_at, u32_at}
+use Rattle.cc_meaning_dex.specs.Numbers.{u16_at, u32_at}
 use Rattle.cc_meaning_plain.specs.declared.plain.PlainInsn.{PlainInsn}
 use Rattle.cc_meaning_plain.specs.declared.plain.Last.{Last}
 use Rattle.cc_meaning_plain.specs.declared.plain.Last.TheVariants.{ReturnVoid, Return}

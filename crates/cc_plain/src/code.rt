@@ -2,18 +2,18 @@
 
 ghost use Rattle.std.specs.Prelude.{◌≡◌, ◌↔◌, ◌≤◌, ℕ, List, map, IsTrue, IfOk, MatchOption};
 ghost use Rattle.cc_meaning.specs.Order.{IsRising};
-ghost use Rattle.cc_meaning_file.specs.Numbers.{Within};
+ghost use Rattle.cc_meaning_dex.specs.Numbers.{Within};
 ghost use Rattle.cc_meaning_plain.specs.declared.plain.PlainCode.{PlainCode};
 ghost use Rattle.cc_meaning_plain.specs.Tables.{IsHeader, HasTables};
 ghost use Rattle.cc_meaning_plain.specs.Code.{IsPlainCode};
 ghost use Rattle.cc_meaning_plain.specs.Plain.{name_of};
 ghost use Rattle.cc_plain.specs.Code.{scope_in, IsOfKind, IsPlainHead};
 
-use super::bytes::{u16_at, u32_at};
 use super::instructions::read_insns;
 use super::kind::{Kind, Known};
 use super::uses::uses_what_is_set;
 use cc_meaning_plain::{PlainCode, law_insns_once};
+use cc_text::{u16_at, u32_at};
 use std::alloc::{AllocError, Global};
 
 fn is_plain_head(file: &[u8], at: usize) -> bool

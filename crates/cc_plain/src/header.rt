@@ -1,11 +1,11 @@
 //! The header of a file and its tables.
 
 ghost use Rattle.std.specs.Prelude.{◌≡◌, ◌+◌, ◌≤◌, ◌↔◌, IsTrue, length};
-ghost use Rattle.cc_meaning_file.specs.Numbers.{Within, Stands};
+ghost use Rattle.cc_meaning_dex.specs.Numbers.{Within, Stands};
 ghost use Rattle.cc_meaning_plain.specs.Tables.{stated_at, row_bytes, row_count, table_at, row_at, IsHeader, HasTables, IsRow, StandsInFile};
 
-use super::bytes::u32_at;
 use cc_meaning_plain::Table;
+use cc_text::u32_at;
 
 /// Whether these bytes stand at `at`.
 pub fn begins(file: &[u8], at: usize, part: &[u8]) -> bool

@@ -3,7 +3,7 @@
 ghost use Rattle.std.specs.Prelude.{◌≡◌, ◌+◌, ◌*◌, ◌/◌, ◌%◌, ◌<◌, ◌≤◌};
 ghost use Rattle.std.specs.Prelude.{ℕ, List, map, IfOk, MatchOption};
 ghost use Rattle.cc_meaning.specs.Order.{IsRising};
-ghost use Rattle.cc_meaning_file.specs.Numbers.{u16_at, Within};
+ghost use Rattle.cc_meaning_dex.specs.Numbers.{u16_at, Within};
 ghost use Rattle.cc_meaning_plain.specs.declared.plain.PlainInsn.{PlainInsn};
 ghost use Rattle.cc_meaning_plain.specs.declared.plain.Last.{Last};
 ghost use Rattle.cc_meaning_plain.specs.Tables.{IsHeader, HasTables};
@@ -12,11 +12,11 @@ ghost use Rattle.cc_meaning_plain.specs.Plain.{name_of};
 ghost use Rattle.cc_plain.specs.declared.kind.Kind.{Kind};
 ghost use Rattle.cc_plain.specs.Code.{scope_in, IsOfKind, IsInsnOf, IsInsnWithin};
 
-use super::bytes::u16_at;
 use super::functions::place_of;
 use super::kind::{Kind, Known};
 use super::names::{function_name, is_out_field, is_println};
 use cc_meaning_plain::{Last, PlainInsn, PlainInsns, law_insn_once, law_name_once};
+use cc_text::u16_at;
 use std::alloc::{AllocError, Global};
 
 fn read_sget_out(file: &[u8], kind: Kind, registers: u16, at: usize) -> Option<PlainInsn>

@@ -1,7 +1,6 @@
 //! The reader of plain files.
 #![tactic(auto)]
 
-mod bytes;
 mod code;
 mod functions;
 mod header;

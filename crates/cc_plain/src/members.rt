@@ -1,7 +1,7 @@
 //! The methods that a class lists, and the descriptor of a class.
 
 ghost use Rattle.std.specs.Prelude.{◌≡◌, ◌≢◌, ◌↔◌, ◌∷◌, ◌≤◌, ℕ, List, length, IsTrue, All, IfOk, MatchOption};
-ghost use Rattle.cc_meaning_file.specs.Leb128.{SpellsUleb};
+ghost use Rattle.cc_meaning_dex.specs.Leb128.{SpellsUleb};
 ghost use Rattle.cc_meaning_plain.specs.declared.plain.Member.{Member};
 ghost use Rattle.cc_meaning_plain.specs.Tables.{IsHeader, IsRow, row_count};
 ghost use Rattle.cc_meaning_plain.specs.Plain.{SpellsMembers, SpellsClassData, IsHigh, IsLow, IsPaired, IsNameUnit, IsClassDescriptor, IsStaticCode};
@@ -9,7 +9,7 @@ ghost use Rattle.cc_plain.specs.Class.{HaveRows};
 
 use super::header::row_count;
 use cc_list::List;
-use cc_meaning_file::one_uleb;
+use cc_meaning_dex::one_uleb;
 use cc_meaning_plain::{Member, Table};
 use cc_text::uleb;
 use std::alloc::{AllocError, Global};

@@ -1,19 +1,18 @@
 //! What the rows of a file name.
 
 ghost use Rattle.std.specs.Prelude.{◌≡◌, ◌+◌, ◌≤◌, ◌↔◌, ◌∷◌, ◌++◌, [], ℕ, List, IsTrue, IfOk, MatchOption, length, codes};
-ghost use Rattle.cc_meaning_file.specs.Numbers.{u16_at, u32_at, Within, Stands};
-ghost use Rattle.cc_meaning_file.specs.Texts.{SpellsText};
+ghost use Rattle.cc_meaning_dex.specs.Numbers.{u16_at, u32_at, Within, Stands};
+ghost use Rattle.cc_meaning_dex.specs.Texts.{SpellsText};
 ghost use Rattle.cc_meaning_plain.specs.Tables.{row_at, IsRow, IsHeader, HasTables};
 ghost use Rattle.cc_meaning_plain.specs.Names.{TextRow, TypeRow, OneType, PrototypeRow, FieldRow, MethodRow, IsOutField, IsPrintln, IsMain, IsFunction};
 ghost use Rattle.cc_plain.specs.Ascii.{IsAsciiName};
 
-use super::bytes::{u16_at, u32_at};
 use super::header::{begins, row_at, row_count};
 use cc_meaning::fault::TextFault;
 use cc_meaning::lists::Units;
-use cc_meaning_file::one_uleb;
+use cc_meaning_dex::one_uleb;
 use cc_meaning_plain::{Table, law_type_once};
-use cc_text::{text, uleb};
+use cc_text::{text, u16_at, u32_at, uleb};
 use std::alloc::{AllocError, Global};
 
 /// Whether these bytes and a zero byte stand at `at`.

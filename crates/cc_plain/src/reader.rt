@@ -7,7 +7,6 @@ ghost use Rattle.cc_meaning_plain.specs.declared.plain.Plain.{Plain};
 ghost use Rattle.cc_meaning_plain.specs.Plain.{IsPlain};
 ghost use Rattle.cc_plain.specs.Class.{HasOneClass, IsClass, HasFunctions};
 
-use super::bytes::u32_at;
 use super::code::read_code;
 use super::functions::in_order;
 use super::header::{has_header, has_tables, row_at, row_count};
@@ -20,6 +19,7 @@ use cc_meaning_plain::{
     Member, Plain, PlainFunctions, Table, law_data_once, law_methods_agree, law_methods_once,
     law_order_once, law_type_once,
 };
+use cc_text::u32_at;
 use std::alloc::{AllocError, Global};
 
 /// The longest file that is read.

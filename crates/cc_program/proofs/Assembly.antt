@@ -30,21 +30,21 @@ use Rattle.cc_meaning_program.specs.declared.reference.Reference.TheVariants as 
 use Rattle.cc_meaning_program.specs.ClassNames.{AreClassNames}
 use Rattle.cc_meaning_program.specs.Named.{field_member, method_member}
 use Rattle.cc_meaning_program.specs.References.{reference_of, named_method}
-use Rattle.cc_meaning_resolution.specs.Members.{IsMethod, IsField, BelongsMethod, BelongsField, out_member}
-use Rattle.cc_meaning_resolution.specs.Naming.{RowNamesMethod, RowNamesField, NamesMethod, NamesField}
-use Rattle.cc_meaning_resolution.specs.Programs.{HasMethod, HasField, IsMethodOf, IsFieldOf}
-use Rattle.cc_meaning_resolution.specs.Resolved.{names_of, whole_name}
-use Rattle.cc_meaning_resolution.specs.Searches.{First}
-use Rattle.cc_meaning_linking.specs.declared.plan.FieldPlan.{FieldPlan}
-use Rattle.cc_meaning_linking.specs.declared.plan.FieldSource.{FieldSource}
-use Rattle.cc_meaning_linking.specs.declared.plan.FieldSource.TheVariants as from_field
-use Rattle.cc_meaning_linking.specs.declared.plan.MethodPlan.{MethodPlan}
-use Rattle.cc_meaning_linking.specs.declared.plan.MethodSource.{MethodSource}
-use Rattle.cc_meaning_linking.specs.declared.plan.MethodSource.TheVariants as from
-use Rattle.cc_meaning_linking.specs.declared.uses.MethodUse.{MethodUse}
-use Rattle.cc_meaning_linking.specs.Owners.{method_placed, field_placed}
-use Rattle.cc_meaning_linking.specs.Plans.{name_at, source_member, raw_method_member, listed_member, method_plan_name, IsSource, AreMethodPlans, field_source_member, raw_field_member, field_plan_name, IsFieldSource, AreFieldPlans}
-use Rattle.cc_meaning_linking.specs.Uses.{AreUses, method_use_of, field_use_of, method_uses_of, field_uses_of}
+use Rattle.cc_meaning_program.specs.Members.{IsMethod, IsField, BelongsMethod, BelongsField, out_member}
+use Rattle.cc_meaning_program.specs.Naming.{RowNamesMethod, RowNamesField, NamesMethod, NamesField}
+use Rattle.cc_meaning_program.specs.Programs.{HasMethod, HasField, IsMethodOf, IsFieldOf}
+use Rattle.cc_meaning_program.specs.Resolved.{names_of, whole_name}
+use Rattle.cc_meaning_program.specs.Searches.{First}
+use Rattle.cc_meaning_program.specs.declared.plan.FieldPlan.{FieldPlan}
+use Rattle.cc_meaning_program.specs.declared.plan.FieldSource.{FieldSource}
+use Rattle.cc_meaning_program.specs.declared.plan.FieldSource.TheVariants as from_field
+use Rattle.cc_meaning_program.specs.declared.plan.MethodPlan.{MethodPlan}
+use Rattle.cc_meaning_program.specs.declared.plan.MethodSource.{MethodSource}
+use Rattle.cc_meaning_program.specs.declared.plan.MethodSource.TheVariants as from
+use Rattle.cc_meaning_program.specs.declared.uses.MethodUse.{MethodUse}
+use Rattle.cc_meaning_program.specs.OwnerNumbers.{method_placed, field_placed}
+use Rattle.cc_meaning_program.specs.Plans.{name_at, source_member, raw_method_member, listed_member, method_plan_name, IsSource, AreMethodPlans, field_source_member, raw_field_member, field_plan_name, IsFieldSource, AreFieldPlans}
+use Rattle.cc_meaning_program.specs.Uses.{AreUses, method_use_of, field_use_of, method_uses_of, field_uses_of}
 
 -- ---- lists
 

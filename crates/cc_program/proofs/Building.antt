@@ -4,10 +4,10 @@ use Rattle.std.specs.Prelude.{slice_get, Contains, ◌||◌, MatchOption}
 use Rattle.std.proofs.lemmas.Option.{slice_get_within, slice_get-get_or, get_or_from_slice_get}
 use Rattle.cc_meaning.specs.declared.file.ClassRow.{ClassRow}
 use Rattle.cc_meaning.specs.declared.file.Ids.{Ids}
-use Rattle.cc_meaning_file.specs.Descriptors.{names_class, names_reference, begins_with}
+use Rattle.cc_meaning_dex.specs.Descriptors.{names_class, names_reference, begins_with}
 use Rattle.cc_meaning_program.specs.ClassNames.{IsClassName, AreClassNames}
 use Rattle.cc_meaning_program.specs.Named.{type_name}
-use Rattle.cc_meaning_linking.specs.Rows.{FitTables}
+use Rattle.cc_meaning_program.specs.Rows.{FitTables}
 
 or_first : (a b : Bool) → a ≡ true → (a || b) ≡ true
 or_first true b e = refl

@@ -8,8 +8,8 @@ use Rattle.cc_meaning.specs.declared.file.RawClass.{RawClass}
 use Rattle.cc_meaning.specs.declared.program.Program.{Program}
 use Rattle.cc_meaning_program.specs.BodyFaults.{HaveSoundBodies}
 use Rattle.cc_meaning_program.specs.ClassFaults.{AreSound}
-use Rattle.cc_meaning_resolution.specs.Programs.{IsMainClass}
-use Rattle.cc_program.specs.Faults.{IsProgramFault}
+use Rattle.cc_meaning_program.specs.Programs.{IsMainClass}
+use Rattle.cc_meaning_program.specs.Faults.{IsProgramFault}
 
 -- where no class has the main method that is asked for
 pub none_asked : (ids : Ids) (classes : List RawClass) (asked : Option (List ℕ)) → AreSound ids classes → HaveSoundBodies ids classes → (r : Result Program ProgramFault) →

@@ -1,3 +1,17 @@
+pub mod OwnFields
+pub mod Climbing
+pub mod Settling
+pub mod Holding
+pub mod Noting
+pub mod Turning
+pub mod Places
+pub mod OutlinesByName
+pub mod LayoutsByName
+pub mod MemberNames
+pub mod ListedByName
+pub mod InitialisersByName
+pub mod ValuesByName
+pub mod ClassesByName
 pub mod Matches
 pub mod Showing
 pub mod Mains

@@ -12,12 +12,12 @@ use Rattle.cc_meaning.specs.declared.file.ClassRow.{ClassRow}
 use Rattle.cc_meaning.specs.declared.file.Ids.{Ids}
 use Rattle.cc_meaning.specs.declared.file.RawClass.{RawClass}
 use Rattle.cc_meaning.specs.declared.file.RawMethod.{RawMethod}
-use Rattle.cc_meaning_classes.specs.CodeItems.{has_flag}
+use Rattle.cc_meaning_dex.specs.CodeItems.{has_flag}
 use Rattle.cc_meaning_program.specs.ClassFaults.{AreSound, IsDuplicate}
 use Rattle.cc_meaning_program.specs.Definitions.{Defines}
 use Rattle.cc_meaning_program.specs.Named.{method_member, type_name}
-use Rattle.cc_meaning_resolution.specs.Declared.{members_of, method_among, method_defined}
-use Rattle.cc_meaning_resolution.specs.Programs.{main_member, HasMain, IsMainClass}
+use Rattle.cc_meaning_program.specs.OwnMembers.{members_of, method_among, method_defined}
+use Rattle.cc_meaning_program.specs.Programs.{main_member, HasMain, IsMainClass}
 use Rattle.cc_program.specs.Mains.{IsRunnable, IsMainAt, IsMainOf, IsWanted, NoMainBefore}
 use Rattle.cc_program.proofs.Assembly.{some_same}
 

@@ -8,21 +8,21 @@ use Rattle.std.proofs.lemmas.Slice.Eq.{bytes_eq-Decides}
 use Rattle.cc_meaning.specs.declared.file.Ids.{Ids}
 use Rattle.cc_meaning.specs.declared.file.RawClass.{RawClass}
 use Rattle.cc_meaning.specs.declared.file.RawMethod.{RawMethod}
-use Rattle.cc_meaning_file.specs.TableLaws.{DescriptorsAgree}
+use Rattle.cc_meaning_dex.specs.TableLaws.{DescriptorsAgree}
 use Rattle.cc_meaning_program.specs.ClassFaults.{AreSound}
 use Rattle.cc_meaning_program.specs.ClassNames.{AreClassNames}
 use Rattle.cc_meaning_program.specs.Named.{method_member, type_name}
-use Rattle.cc_meaning_resolution.specs.Declared.{method_defined, members_of, built_in_member}
-use Rattle.cc_meaning_resolution.specs.Members.{BelongsMethod}
-use Rattle.cc_meaning_resolution.specs.Programs.{main_member}
-use Rattle.cc_meaning_resolution.specs.Resolved.{whole_name}
-use Rattle.cc_meaning_linking.specs.declared.plan.MethodPlan.{MethodPlan}
-use Rattle.cc_meaning_linking.specs.declared.plan.MethodSource.{MethodSource}
-use Rattle.cc_meaning_linking.specs.declared.plan.MethodSource.TheVariants as from
-use Rattle.cc_meaning_linking.specs.declared.uses.MethodUse.{MethodUse}
-use Rattle.cc_meaning_linking.specs.Owners.{method_placed, method_in}
-use Rattle.cc_meaning_linking.specs.Plans.{name_at, source_member, raw_method_member, listed_member, method_plan_name, IsSource, AreMethodPlans}
-use Rattle.cc_meaning_linking.specs.Rows.{FitTables}
+use Rattle.cc_meaning_program.specs.OwnMembers.{method_defined, members_of, built_in_member}
+use Rattle.cc_meaning_program.specs.Members.{BelongsMethod}
+use Rattle.cc_meaning_program.specs.Programs.{main_member}
+use Rattle.cc_meaning_program.specs.Resolved.{whole_name}
+use Rattle.cc_meaning_program.specs.declared.plan.MethodPlan.{MethodPlan}
+use Rattle.cc_meaning_program.specs.declared.plan.MethodSource.{MethodSource}
+use Rattle.cc_meaning_program.specs.declared.plan.MethodSource.TheVariants as from
+use Rattle.cc_meaning_program.specs.declared.uses.MethodUse.{MethodUse}
+use Rattle.cc_meaning_program.specs.OwnerNumbers.{method_placed, method_in}
+use Rattle.cc_meaning_program.specs.Plans.{name_at, source_member, raw_method_member, listed_member, method_plan_name, IsSource, AreMethodPlans}
+use Rattle.cc_meaning_program.specs.Rows.{FitTables}
 use Rattle.cc_program.specs.Mains.{IsMainOf, IsMainSource, IsMainPlan}
 use Rattle.cc_program.proofs.Assembly.{some_same, found_mapped, place_of_name, name_there, contained_at}
 use Rattle.cc_program.proofs.MainClasses.{members_at, has_main}

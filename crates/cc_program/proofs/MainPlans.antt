@@ -7,9 +7,9 @@ use Rattle.std.proofs.lemmas.Option.{slice_get_within, slice_get-get_or}
 use Rattle.cc_meaning.specs.declared.file.Ids.{Ids}
 use Rattle.cc_meaning.specs.declared.file.RawClass.{RawClass}
 use Rattle.cc_meaning.specs.declared.file.RawMethod.{RawMethod}
-use Rattle.cc_meaning_linking.specs.declared.plan.MethodPlan.{MethodPlan}
+use Rattle.cc_meaning_program.specs.declared.plan.MethodPlan.{MethodPlan}
 use Rattle.cc_meaning_program.specs.Named.{method_member}
-use Rattle.cc_meaning_resolution.specs.Programs.{main_member}
+use Rattle.cc_meaning_program.specs.Programs.{main_member}
 use Rattle.cc_program.specs.Mains.{IsMainSource, IsMainPlan}
 use Rattle.cc_program.proofs.Assembly.{some_same}
 

@@ -8,7 +8,7 @@ use Rattle.cc_meaning.specs.declared.file.Ids.{Ids}
 use Rattle.cc_meaning.specs.declared.file.RawClass.{RawClass}
 use Rattle.cc_meaning.specs.declared.file.RawMethod.{RawMethod}
 use Rattle.cc_meaning_program.specs.Named.{method_member, type_name}
-use Rattle.cc_meaning_resolution.specs.Programs.{main_member}
+use Rattle.cc_meaning_program.specs.Programs.{main_member}
 use Rattle.cc_program.specs.Mains.{IsRunnable, IsMainAt, IsMainOf, IsWanted, NoMainBefore}
 
 -- none of the methods before this place has the name of a main method

@@ -7,18 +7,18 @@ use Rattle.cc_meaning.specs.declared.fault.ProgramFault.TheVariants as program
 use Rattle.cc_meaning.specs.declared.file.Ids.{Ids}
 use Rattle.cc_meaning.specs.declared.file.RawClass.{RawClass}
 use Rattle.cc_meaning.specs.declared.program.Program.{Program}
-use Rattle.cc_meaning_classes.specs.Classes.{SpellsClasses}
-use Rattle.cc_meaning_classes.specs.Laws.{OneClasses}
-use Rattle.cc_meaning_file.specs.Ids.{SpellsIds}
-use Rattle.cc_meaning_file.specs.TableLaws.{OneIds}
+use Rattle.cc_meaning_dex.specs.Classes.{SpellsClasses}
+use Rattle.cc_meaning_dex.specs.ClassLaws.{OneClasses}
+use Rattle.cc_meaning_dex.specs.Ids.{SpellsIds}
+use Rattle.cc_meaning_dex.specs.TableLaws.{OneIds}
 use Rattle.cc_meaning_program.specs.BodyFaults.{IsBodyFault, HaveSoundBodies, SoundBodiesHaveNone}
 use Rattle.cc_meaning_program.specs.ClassFaults.{AreSound, IsClassFault, SoundClassesHaveNoFault}
-use Rattle.cc_meaning_resolution.specs.Laws.{OneProgram, FilesHaveDescriptors}
-use Rattle.cc_meaning_resolution.specs.Programs.{IsProgram, IsMainClass}
-use Rattle.cc_program.specs.Faults.{IsProgramFault}
-use Rattle.cc_program.specs.Reading.{SpellsProgram, IsReadFault, OneSpelledProgram, dex_fault, program_fault}
-use Rattle.cc_program.specs.declared.fault.ReadFault.{ReadFault}
-use Rattle.cc_program.specs.declared.fault.ReadFault.TheVariants as faults
+use Rattle.cc_meaning_program.specs.Laws.{OneProgram, FilesHaveDescriptors}
+use Rattle.cc_meaning_program.specs.Programs.{IsProgram, IsMainClass}
+use Rattle.cc_meaning_program.specs.Faults.{IsProgramFault}
+use Rattle.cc_meaning_program.specs.Reading.{SpellsProgram, IsReadFault, OneSpelledProgram, dex_fault, program_fault}
+use Rattle.cc_meaning_program.specs.declared.read_fault.ReadFault.{ReadFault}
+use Rattle.cc_meaning_program.specs.declared.read_fault.ReadFault.TheVariants as faults
 
 -- what the tables and classes that a file spells are
 same_ids : OneIds → (file : List ℕ) (asked : Option (List ℕ)) (spelled : Program) (ids : Ids) → SpellsIds file ids → (is : SpellsProgram file asked spelled) → is.ids ≡ ids

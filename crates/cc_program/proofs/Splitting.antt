@@ -10,9 +10,9 @@ use Rattle.cc_meaning.specs.declared.file.Ids.{Ids}
 use Rattle.cc_meaning.specs.BuiltIn.{BuiltInClass, built_in_classes, built_in_plain_classes, built_in_throwables, object_name, string_name, string_builder_name, system_name, print_stream_name, throwable_name, exception_name, error_name, runtime_exception_name, arithmetic_exception_name, null_pointer_exception_name, array_store_exception_name, class_cast_exception_name, index_out_of_bounds_exception_name, negative_array_size_exception_name, illegal_argument_exception_name, illegal_state_exception_name, array_index_out_of_bounds_exception_name, string_index_out_of_bounds_exception_name, linkage_error_name, virtual_machine_error_name, no_class_def_found_error_name, exception_in_initializer_error_name, incompatible_class_change_error_name, abstract_method_error_name, stack_overflow_error_name}
 use Rattle.cc_meaning_program.specs.ClassNames.{IsClassName, base_name, texts_name}
 use Rattle.cc_meaning_program.specs.Named.{type_name}
-use Rattle.cc_meaning_linking.specs.Rows.{FitTables}
-use Rattle.cc_meaning_file.specs.TableLaws.{DescriptorsAgree}
-use Rattle.cc_meaning_file.specs.Descriptors.{dimensions, dims_of, is_name_unit, is_primitive, is_descriptor, is_class_descriptor, paired_after, names_class, names_reference, begins_with, IsClassDescriptor, IsDescriptor, IsValue, IsValueDescriptor}
+use Rattle.cc_meaning_program.specs.Rows.{FitTables}
+use Rattle.cc_meaning_dex.specs.TableLaws.{DescriptorsAgree}
+use Rattle.cc_meaning_dex.specs.Descriptors.{dimensions, dims_of, is_name_unit, is_primitive, is_descriptor, is_class_descriptor, paired_after, names_class, names_reference, begins_with, IsClassDescriptor, IsDescriptor, IsValue, IsValueDescriptor}
 
 -- a descriptor that is none of V
 pub record IsOfValue (name : List ℕ) : Type 0 where

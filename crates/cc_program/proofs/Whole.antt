@@ -9,19 +9,19 @@ use Rattle.cc_meaning.specs.declared.program.Field.{Field}
 use Rattle.cc_meaning.specs.declared.program.Method.{Method}
 use Rattle.cc_meaning.specs.declared.program.Program.{Program}
 use Rattle.cc_meaning.specs.Names.{field_name, method_name}
-use Rattle.cc_meaning_file.specs.TableLaws.{DescriptorsAgree}
+use Rattle.cc_meaning_dex.specs.TableLaws.{DescriptorsAgree}
 use Rattle.cc_meaning_program.specs.ClassFaults.{AreSound}
 use Rattle.cc_meaning_program.specs.ClassNames.{AreClassNames, AreTexts}
 use Rattle.cc_meaning_program.specs.Named.{type_name}
-use Rattle.cc_meaning_resolution.specs.Members.{IsField, IsMethod}
-use Rattle.cc_meaning_resolution.specs.Programs.{IsClass, IsProgram, main_member}
-use Rattle.cc_meaning_resolution.specs.Resolved.{names_of, whole_name}
-use Rattle.cc_meaning_linking.specs.declared.plan.FieldPlan.{FieldPlan}
-use Rattle.cc_meaning_linking.specs.declared.plan.MethodPlan.{MethodPlan}
-use Rattle.cc_meaning_linking.specs.Plans.{name_at, source_member, method_plan_name, field_source_member, field_plan_name}
-use Rattle.cc_meaning_linking.specs.Rows.{FitTables}
-use Rattle.cc_classes.specs.Parts.{HasParts}
-use Rattle.cc_code.specs.ProgramLinks.{LinkInto}
+use Rattle.cc_meaning_program.specs.Members.{IsField, IsMethod}
+use Rattle.cc_meaning_program.specs.Programs.{IsClass, IsProgram, main_member}
+use Rattle.cc_meaning_program.specs.Resolved.{names_of, whole_name}
+use Rattle.cc_meaning_program.specs.declared.plan.FieldPlan.{FieldPlan}
+use Rattle.cc_meaning_program.specs.declared.plan.MethodPlan.{MethodPlan}
+use Rattle.cc_meaning_program.specs.Plans.{name_at, source_member, method_plan_name, field_source_member, field_plan_name}
+use Rattle.cc_meaning_program.specs.Rows.{FitTables}
+use Rattle.cc_program.specs.Parts.{HasParts}
+use Rattle.cc_bodies.specs.ProgramLinks.{LinkInto}
 use Rattle.cc_members.specs.FieldPremises.{HaveFieldNames, ArePlannedFields}
 use Rattle.cc_members.specs.MethodPremises.{HaveMethodNames, ArePlannedMethods}
 use Rattle.cc_program.specs.declared.links.Linked.{Linked}

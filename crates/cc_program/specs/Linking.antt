@@ -4,14 +4,14 @@ use Rattle.cc_meaning.specs.declared.file.Ids.{Ids}
 use Rattle.cc_meaning.specs.declared.file.RawClass.{RawClass}
 use Rattle.cc_meaning_program.specs.ClassFaults.{AreSound}
 use Rattle.cc_meaning_program.specs.ClassNames.{AreClassNames}
-use Rattle.cc_meaning_linking.specs.declared.outline.Outline.{Outline}
-use Rattle.cc_meaning_linking.specs.declared.uses.MethodUse.{MethodUse}
-use Rattle.cc_meaning_linking.specs.Links.{AreLinks}
-use Rattle.cc_meaning_linking.specs.Outlines.{AreOutlines}
-use Rattle.cc_meaning_linking.specs.Plans.{AreMethodPlans, AreFieldPlans, method_plan_name, field_plan_name}
-use Rattle.cc_meaning_linking.specs.Rows.{FitTables, FitClasses}
-use Rattle.cc_meaning_linking.specs.Uses.{AreUses}
-use Rattle.cc_plans.specs.Linked.{AreMethodLinks, AreFieldLinks}
+use Rattle.cc_meaning_program.specs.declared.outline.Outline.{Outline}
+use Rattle.cc_meaning_program.specs.declared.uses.MethodUse.{MethodUse}
+use Rattle.cc_meaning_program.specs.Links.{AreLinks}
+use Rattle.cc_meaning_program.specs.Outlines.{AreOutlines}
+use Rattle.cc_meaning_program.specs.Plans.{AreMethodPlans, AreFieldPlans, method_plan_name, field_plan_name}
+use Rattle.cc_meaning_program.specs.Rows.{FitTables, FitClasses}
+use Rattle.cc_meaning_program.specs.Uses.{AreUses}
+use Rattle.cc_members.specs.Linked.{AreMethodLinks, AreFieldLinks}
 use Rattle.cc_program.specs.declared.links.Linked.{Linked}
 use Rattle.cc_program.specs.declared.links.LinkedFields.{LinkedFields}
 use Rattle.cc_program.specs.declared.links.LinkedMethods.{LinkedMethods}

@@ -5,12 +5,12 @@ use Rattle.cc_meaning.specs.declared.file.ClassRow.{ClassRow}
 use Rattle.cc_meaning.specs.declared.file.Ids.{Ids}
 use Rattle.cc_meaning.specs.declared.file.RawClass.{RawClass}
 use Rattle.cc_meaning.specs.declared.file.RawMethod.{RawMethod}
-use Rattle.cc_meaning_linking.specs.declared.plan.MethodPlan.{MethodPlan}
-use Rattle.cc_meaning_linking.specs.declared.plan.MethodSource.{MethodSource}
-use Rattle.cc_meaning_linking.specs.declared.plan.MethodSource.TheVariants as from
-use Rattle.cc_meaning_classes.specs.CodeItems.{has_flag}
+use Rattle.cc_meaning_program.specs.declared.plan.MethodPlan.{MethodPlan}
+use Rattle.cc_meaning_program.specs.declared.plan.MethodSource.{MethodSource}
+use Rattle.cc_meaning_program.specs.declared.plan.MethodSource.TheVariants as from
+use Rattle.cc_meaning_dex.specs.CodeItems.{has_flag}
 use Rattle.cc_meaning_program.specs.Named.{method_member, type_name}
-use Rattle.cc_meaning_resolution.specs.Programs.{main_member}
+use Rattle.cc_meaning_program.specs.Programs.{main_member}
 
 -- a static method with code
 pub record IsRunnable (raw : RawMethod) : Type 0 where

@@ -2,7 +2,7 @@
 
 ghost use Rattle.std.specs.Prelude.{◌≡◌, ◌++◌, IfOk, OnOk};
 ghost use Rattle.std.specs.Char.Escape.{encode_utf16};
-ghost use Rattle.cc_program.specs.Asked.{units_of, asked_class};
+ghost use Rattle.cc_meaning_program.specs.Asked.{units_of, asked_class};
 
 use cc_list::List;
 use cc_meaning::lists::Units;

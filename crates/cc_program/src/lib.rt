@@ -3,12 +3,18 @@
 
 mod asked;
 mod build;
-mod fault;
+mod class_fields;
+mod class_parts;
+mod initialisers;
+mod layouts;
 mod links;
 mod main_class;
+mod making;
 mod matching;
 mod read;
+mod values;
 
 pub use build::build_program;
-pub use fault::ReadFault;
-pub use read::{one_spelled_program, read_dex};
+pub use class_parts::classes;
+pub use making::Parts;
+pub use read::{one_spelled_program, read_dex, spelled_programs_are_complete};

@@ -5,25 +5,24 @@ ghost use Rattle.cc_meaning.specs.declared.program.Placed.{Placed};
 ghost use Rattle.cc_meaning_program.specs.BodyFaults.{HaveSoundBodies};
 ghost use Rattle.cc_meaning_program.specs.ClassFaults.{AreSound};
 ghost use Rattle.cc_meaning_program.specs.ClassNames.{AreClassNames, AreTexts};
-ghost use Rattle.cc_meaning_linking.specs.declared.uses.MethodUse.{MethodUse};
-ghost use Rattle.cc_meaning_linking.specs.Outlines.{AreOutlines};
-ghost use Rattle.cc_meaning_linking.specs.Plans.{AreMethodPlans, AreFieldPlans, method_plan_name, field_plan_name};
-ghost use Rattle.cc_meaning_linking.specs.Rows.{FitTables, FitClasses};
-ghost use Rattle.cc_meaning_linking.specs.Uses.{AreUses};
+ghost use Rattle.cc_meaning_program.specs.declared.uses.MethodUse.{MethodUse};
+ghost use Rattle.cc_meaning_program.specs.Outlines.{AreOutlines};
+ghost use Rattle.cc_meaning_program.specs.Plans.{AreMethodPlans, AreFieldPlans, method_plan_name, field_plan_name};
+ghost use Rattle.cc_meaning_program.specs.Rows.{FitTables, FitClasses};
+ghost use Rattle.cc_meaning_program.specs.Uses.{AreUses};
 ghost use Rattle.cc_bodies.specs.Bodies.{AreBodies};
-ghost use Rattle.cc_plans.specs.Linked.{AreMethodLinks, AreFieldLinks};
+ghost use Rattle.cc_members.specs.Linked.{AreMethodLinks, AreFieldLinks};
 ghost use Rattle.cc_program.specs.Linking.{IsOutlined, IsLinked, MethodsLinked, FieldsLinked};
 
-use cc_bodies::Bodies;
-use cc_code::{member_uses, used_rows_are_there};
+use cc_bodies::{Bodies, member_uses, used_rows_are_there};
 use cc_list::List;
 use cc_meaning::fault::Memory;
 use cc_meaning::file::{Ids, RawClasses};
 use cc_meaning::lists::{FieldIx, Rows, Texts};
-use cc_meaning_linking::{FieldPlans, Links, MethodLink, MethodPlans, MethodUses, Outlines};
+use cc_meaning_program::{FieldPlans, Links, MethodLink, MethodPlans, MethodUses, Outlines};
+use cc_members::{field_links, field_plans, method_links, method_plans};
 use cc_names::{numbers_of_texts, types_of_rows};
 use cc_owners::{field_owners, method_owners};
-use cc_plans::{field_links, field_plans, method_links, method_plans};
 use std::alloc::Global;
 
 /// What a program's members are made from, and what the rows of its file are in it.

@@ -8,7 +8,7 @@ ghost use Rattle.cc_program.specs.Mains.{IsRunnable, IsMainAt, IsMainOf, IsWante
 use crate::matching::is_member;
 use cc_meaning::file::{Ids, RawClass, RawClasses, RawMethod};
 use cc_meaning::lists::ClassIx;
-use cc_meaning_linking::{MethodPlan, MethodPlans, MethodSource};
+use cc_meaning_program::{MethodPlan, MethodPlans, MethodSource};
 use cc_names::type_name;
 
 /// The name of a main method within its class.

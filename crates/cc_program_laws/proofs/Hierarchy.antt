@@ -1,11 +1,11 @@
 -- The classes of a program lead to Object.
-use Rattle.std.proofs.Common.{◌≡◌, ℕ, zero, suc, ◌<◌, ◌≤◌, Bool, true, false, eqb, List, [], ◌∷◌, length, map, Option, Some, None, position, refl, sym, ap, ◌∙◌, subst, arith}
+use Rattle.std.proofs.Common.{◌≡◌, ℕ, zero, suc, ◌<◌, ◌≤◌, Bool, true, false, eqb, List, [], ◌∷◌, length, Option, Some, None, refl, sym, ap, ◌∙◌, subst, arith}
 use Rattle.std.specs.Prelude.{slice_get, option_and_then, unwrap_or, ◌==◌, ◌||◌}
 use Rattle.std.specs.List.{list_any, IsDistinct, AllByRecursion}
 use Rattle.std.specs.Str.{bytes_eq}
 use Rattle.std.proofs.lemmas.Bool.Decides.{Decides-eqb}
 use Rattle.std.proofs.lemmas.Map.Steps.{length-le_from_distinct_below}
-use Rattle.std.proofs.lemmas.Option.{slice_get_within, slice_get-get_or}
+use Rattle.std.proofs.lemmas.Option.{slice_get_within}
 use Rattle.cc_meaning.specs.declared.file.Ids.{Ids}
 use Rattle.cc_meaning.specs.declared.file.RawClass.{RawClass}
 use Rattle.cc_meaning.specs.declared.program.Class.{Class}
@@ -14,10 +14,10 @@ use Rattle.cc_meaning.specs.BuiltIn.{object_name}
 use Rattle.cc_meaning.specs.Lookup.{class_named}
 use Rattle.cc_meaning_program.specs.ClassFaults.{AreSound}
 use Rattle.cc_meaning_program.specs.ClassNames.{IsClassName}
-use Rattle.cc_meaning_resolution.specs.Ancestry.{superclass_named, Ancestry}
-use Rattle.cc_meaning_resolution.specs.Programs.{IsProgram, IsClass}
-use Rattle.cc_meaning_resolution.specs.Resolved.{names_of}
-use Rattle.cc_meaning_linking.specs.Rows.{FitTables}
+use Rattle.cc_meaning_program.specs.Ancestry.{superclass_named, Ancestry}
+use Rattle.cc_meaning_program.specs.Programs.{IsProgram}
+use Rattle.cc_meaning_program.specs.Resolved.{names_of}
+use Rattle.cc_meaning_program.specs.Rows.{FitTables}
 use Rattle.cc_meaning_typing.specs.Hierarchy.{IsHierarchy, climb, object_class, superclass_in, superclass_of, on_value}
 use Rattle.cc_program_laws.proofs.Lists.{some_same, place_of_name, position_map, found_mapped, mapped_found, contained_at, length_map, at_place}
 use Rattle.cc_program_laws.proofs.Names.{above_is_class, top_is_object, object_has_none, object_in}
@@ -78,7 +78,7 @@ other_first : (number k : ℕ) (rest : Bool) (r : Bool) → (number == k) ≡ r 
 other_first number k rest true is none = absurd (none refl)
 other_first number k rest false is none = (is, none)
 
-others : (number : ℕ) (numbers : List ℕ) → (list_any (λ other. number == other) numbers ≡ true → ⊥) → AllByRecursion (λ other. (number == other) ≡ false) numbers
+pub others : (number : ℕ) (numbers : List ℕ) → (list_any (λ other. number == other) numbers ≡ true → ⊥) → AllByRecursion (λ other. (number == other) ≡ false) numbers
 others number [] none = tt
 others number (k ∷ ks) none =
     let first = other_first number k (list_any (λ other. number == other) ks) (number == k) refl none in
@@ -115,11 +115,11 @@ module _ (ids : Ids) (classes : List RawClass) (asked : Option (List ℕ)) (prog
   unfolding names_of
   numbered k name e = position_map (λ n. bytes_eq n name) (λ (class : Class). class.name) program.classes ∙ place_of_name (names_of program) k name is.class_names.rise e
 
-  in_names : (name : List ℕ) → IsClassName ids name → (k : ℕ) × (slice_get (names_of program) k ≡ Some name)
+  pub in_names : (name : List ℕ) → IsClassName ids name → (k : ℕ) × (slice_get (names_of program) k ≡ Some name)
   in_names name class = contained_at (names_of program) name ((is.class_names.are name).1 class)
 
   -- the class of a number that has a name
-  class_at : (k : ℕ) (name : List ℕ) → slice_get (names_of program) k ≡ Some name → (class : Class) × (slice_get program.classes k ≡ Some class) × (class.name ≡ name)
+  pub class_at : (k : ℕ) (name : List ℕ) → slice_get (names_of program) k ≡ Some name → (class : Class) × (slice_get program.classes k ≡ Some class) × (class.name ≡ name)
   unfolding names_of
   class_at k name e = found_mapped (λ (class : Class). class.name) program.classes k name e
 

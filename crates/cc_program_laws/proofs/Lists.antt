@@ -1,7 +1,7 @@
 -- Lists, what is found in them, and their places.
-use Rattle.std.proofs.Common.{◌≡◌, ◌≢◌, ◌⊎◌, inl, inr, ℕ, zero, suc, ◌<◌, ◌+◌, Bool, true, false, List, [], ◌∷◌, length, map, get_or, Option, Some, None, cond, position, refl, sym, ap, ◌∙◌, subst, arith, slice_index_or}
+use Rattle.std.proofs.Common.{◌≡◌, ◌≢◌, ℕ, zero, suc, ◌<◌, ◌+◌, Bool, true, false, List, [], ◌∷◌, length, map, get_or, Option, Some, None, cond, position, refl, sym, ap, ◌∙◌, subst, arith, slice_index_or}
 use Rattle.std.specs.Prelude.{slice_get, find, option_map, Contains, AllPairs, not, nat_lt}
-use Rattle.std.specs.List.{position_or_len, list_any}
+use Rattle.std.specs.List.{position_or_len}
 use Rattle.std.specs.Str.{bytes_eq}
 use Rattle.std.specs.Cmp.Lexicographic.{slice_cmp}
 use Rattle.std.specs.Ordering.{nat_cmp}
@@ -58,7 +58,7 @@ place_found p xs i e h = grind (arith, e, h)
 first_is_position : {X : Type 0} (p : X → Bool) (xs : List X) (at : ℕ) (d : X) → at < length xs → ((k : ℕ) → k < at → p (slice_index_or xs k d) ≡ false) → p (slice_index_or xs at d) ≡ true → position p xs ≡ Some at
 first_is_position p xs at d below none here = place_found p xs at (position_or_len_is p xs at d (omega arith) none (λ h. here)) below
 
-not_before_itself : (name : List ℕ) → IsBefore name name → ⊥
+pub not_before_itself : (name : List ℕ) → IsBefore name name → ⊥
 not_before_itself name less =
     let same : slice_cmp nat_cmp name name ≡ Equal = tied_itself nat_list_cmp_total name in
     absurd cc

@@ -1,26 +1,21 @@
 -- What names name in a program of a file, and what stands above its classes.
-use Rattle.std.proofs.Common.{◌≡◌, ◌≢◌, ◌⊎◌, inl, inr, ℕ, zero, suc, ◌<◌, ◌≤◌, Bool, true, false, List, [], ◌∷◌, length, map, Option, Some, None, cond, position, refl, sym, ap, ◌∙◌, subst, arith}
+use Rattle.std.proofs.Common.{◌≡◌, ◌⊎◌, inl, inr, ℕ, zero, suc, Bool, true, false, List, [], ◌∷◌, Option, Some, None, cond, refl, sym, ap, ◌∙◌, subst, arith}
 use Rattle.std.specs.Prelude.{slice_get, find, drop, option_and_then, option_map, if◌then◌else◌, ◌||◌, is_some}
-use Rattle.std.specs.List.{list_any, list_all}
+use Rattle.std.specs.List.{list_any}
 use Rattle.std.specs.Str.{bytes_eq}
 use Rattle.std.proofs.lemmas.List.Folds.{list_any_at}
 use Rattle.cc_meaning.specs.declared.file.ClassRow.{ClassRow}
 use Rattle.cc_meaning.specs.declared.file.Ids.{Ids}
 use Rattle.cc_meaning.specs.declared.file.RawClass.{RawClass}
-use Rattle.cc_meaning.specs.declared.program.Class.{Class}
-use Rattle.cc_meaning.specs.declared.program.ClassKind.{ClassKind}
 use Rattle.cc_meaning.specs.declared.program.ClassKind.TheVariants.{File, BuiltIn, Outside, OutsideError, Array}
-use Rattle.cc_meaning.specs.declared.program.Program.{Program}
-use Rattle.cc_meaning.specs.BuiltIn.{BuiltInClass, built_in_plain_classes, built_in_throwables, built_in_classes, built_in_class, built_in_superclass, is_built_in, object_name, throwable_name, exception_name, runtime_exception_name, index_out_of_bounds_exception_name, error_name, linkage_error_name, incompatible_class_change_error_name, virtual_machine_error_name, string_name, string_builder_name, system_name, print_stream_name, arithmetic_exception_name, null_pointer_exception_name, array_store_exception_name, class_cast_exception_name, negative_array_size_exception_name, illegal_argument_exception_name, illegal_state_exception_name, array_index_out_of_bounds_exception_name, string_index_out_of_bounds_exception_name, no_class_def_found_error_name, exception_in_initializer_error_name, abstract_method_error_name, stack_overflow_error_name}
-use Rattle.cc_meaning.specs.Lookup.{class_named}
-use Rattle.cc_meaning_file.specs.Descriptors.{begins_with}
-use Rattle.cc_meaning_program.specs.ClassFaults.{AreSound, HasNoSuperclass, LacksSuperclass}
-use Rattle.cc_meaning_program.specs.ClassNames.{IsClassName, AreClassNames}
+use Rattle.cc_meaning.specs.BuiltIn.{BuiltInClass, built_in_plain_classes, built_in_throwables, built_in_classes, built_in_class, built_in_superclass, is_built_in, object_name, throwable_name, exception_name, runtime_exception_name, index_out_of_bounds_exception_name, error_name, linkage_error_name, incompatible_class_change_error_name, virtual_machine_error_name}
+use Rattle.cc_meaning_dex.specs.Descriptors.{begins_with}
+use Rattle.cc_meaning_program.specs.ClassFaults.{AreSound, HasNoSuperclass}
+use Rattle.cc_meaning_program.specs.ClassNames.{IsClassName}
 use Rattle.cc_meaning_program.specs.Named.{type_name}
-use Rattle.cc_meaning_resolution.specs.Ancestry.{definition_of, is_defined, is_exception, is_error, kind_of_class, outside_kind, superclass_by_kind, superclass_named, stated_superclass, Ancestry}
-use Rattle.cc_meaning_resolution.specs.Resolved.{names_of}
-use Rattle.cc_meaning_linking.specs.Rows.{FitTables, ClassFits}
-use Rattle.cc_program_laws.proofs.Lists.{same_bytes, bytes_same, some_same, some_mapped, found_is, position_is, place_of_name, position_map, found_mapped, mapped_found, contained_at}
+use Rattle.cc_meaning_program.specs.Ancestry.{definition_of, is_defined, is_exception, is_error, kind_of_class, outside_kind, superclass_by_kind, superclass_named, stated_superclass}
+use Rattle.cc_meaning_program.specs.Rows.{FitTables}
+use Rattle.cc_program_laws.proofs.Lists.{same_bytes, bytes_same, some_same, some_mapped, found_is}
 
 -- ---- built-in classes
 

@@ -1,10 +1,9 @@
 -- Each program of a file is well formed.
-use Rattle.std.proofs.Common.{◌≡◌, ◌⊎◌, inl, inr, ℕ, zero, suc, ◌+◌, ◌<◌, ◌≤◌, ◌^◌, Bool, true, false, List, [], ◌∷◌, ◌++◌, length, map, cond, Option, Some, None, refl, sym, ap, ◌∙◌, subst, arith}
-use Rattle.std.specs.Prelude.{slice_get, slice_index, drop, if◌then◌else◌, ◌==◌, All, IsTrue, option_and_then, find, position}
-use Rattle.std.specs.List.{list_any}
+use Rattle.std.proofs.Common.{◌≡◌, inl, inr, ℕ, zero, suc, ◌+◌, ◌<◌, ◌^◌, Bool, true, false, List, [], ◌∷◌, ◌++◌, length, map, cond, Option, Some, None, refl, sym, ap, ◌∙◌, subst, arith}
+use Rattle.std.specs.Prelude.{slice_get, slice_index, ◌==◌, IsTrue, option_and_then, position}
 use Rattle.std.specs.Str.{bytes_eq}
 use Rattle.std.proofs.lemmas.Bool.Decides.{Decides-eqb}
-use Rattle.std.proofs.lemmas.Option.{slice_get_within, slice_get-get_or}
+use Rattle.std.proofs.lemmas.Option.{slice_get-get_or}
 use Rattle.cc_meaning.specs.declared.file.ClassRow.{ClassRow}
 use Rattle.cc_meaning.specs.declared.file.Ids.{Ids}
 use Rattle.cc_meaning.specs.declared.file.RawClass.{RawClass}
@@ -15,32 +14,28 @@ use Rattle.cc_meaning.specs.declared.program.Code.{Code}
 use Rattle.cc_meaning.specs.declared.program.Method.{Method}
 use Rattle.cc_meaning.specs.declared.program.MethodKind.{MethodKind}
 use Rattle.cc_meaning.specs.declared.program.MethodKind.TheVariants as kinds
-use Rattle.cc_meaning.specs.declared.program.Placed.{Placed}
 use Rattle.cc_meaning.specs.declared.program.Program.{Program}
 use Rattle.cc_meaning.specs.BuiltIn.{BuiltInClass, is_built_in, built_in_classes, built_in_plain_classes, built_in_throwables, object_name, string_name, string_builder_name, system_name, print_stream_name, throwable_name, exception_name, error_name, runtime_exception_name, arithmetic_exception_name, null_pointer_exception_name, array_store_exception_name, class_cast_exception_name, index_out_of_bounds_exception_name, negative_array_size_exception_name, illegal_argument_exception_name, illegal_state_exception_name, array_index_out_of_bounds_exception_name, string_index_out_of_bounds_exception_name, linkage_error_name, virtual_machine_error_name, no_class_def_found_error_name, exception_in_initializer_error_name, incompatible_class_change_error_name, abstract_method_error_name, stack_overflow_error_name}
-use Rattle.cc_meaning_classes.specs.CodeItems.{has_flag}
-use Rattle.cc_meaning_file.specs.Descriptors.{dims_of, dimensions, begins_with, names_class, IsDescriptor, IsValue, IsValueDescriptor, IsClassDescriptor, is_primitive}
-use Rattle.cc_meaning_program.specs.ClassFaults.{AreSound}
+use Rattle.cc_meaning_dex.specs.Descriptors.{dimensions, IsDescriptor, IsValue, is_primitive}
 use Rattle.cc_meaning_program.specs.ClassNames.{IsClassName, base_name, texts_name}
 use Rattle.cc_meaning_program.specs.CodeSizes.{HaveFewUnits}
 use Rattle.cc_meaning_program.specs.Instructions.{AreLaidOut, InstructionsLaidOut}
 use Rattle.cc_meaning_program.specs.Named.{type_name, method_member}
-use Rattle.cc_meaning_resolution.specs.Declared.{method_defined, method_among, members_of}
-use Rattle.cc_meaning_resolution.specs.Members.{CodeResolved, IsMethod, KindResolved, Pairs}
-use Rattle.cc_meaning_resolution.specs.Programs.{IsProgram}
-use Rattle.cc_meaning_resolution.specs.Resolved.{names_of, PlacedResolved}
-use Rattle.cc_meaning_linking.specs.Rows.{FitTables}
+use Rattle.cc_meaning_program.specs.OwnMembers.{method_defined, method_among, members_of}
+use Rattle.cc_meaning_program.specs.Members.{CodeResolved, IsMethod, KindResolved, Pairs}
+use Rattle.cc_meaning_program.specs.Resolved.{names_of}
+use Rattle.cc_meaning_program.specs.Rows.{FitTables}
 use Rattle.cc_meaning_typing.specs.Code.{brackets}
-use Rattle.cc_meaning_typing.specs.WellFormed.{HasFewDimensions, IsLaidOut, IsWellFormed}
+use Rattle.cc_meaning_typing.specs.WellFormed.{IsLaidOut}
 use Rattle.cc_program_laws.specs.Laws.{ProgramsAreWellFormed}
 use Rattle.cc_program_laws.proofs.Names.{any_found}
-use Rattle.cc_program_laws.proofs.Lists.{found_contained, some_same, found_is, position_is, rising_unmapped, mapped_found, contained_at, at_place, same_bytes}
+use Rattle.cc_program_laws.proofs.Lists.{found_contained, some_same, found_is, rising_unmapped, mapped_found, same_bytes}
 use Rattle.cc_program_laws.proofs.Hierarchy.{hierarchy}
 
 -- ---- code
 
 -- what goes with an item, and with none
-pair_at : {A B : Type 0} {holds : A → B → Type 0} (xs : List A) (ys : List B) → Pairs holds xs ys → (k : ℕ) (y : B) → slice_get ys k ≡ Some y → (x : A) × (slice_get xs k ≡ Some x) × holds x y
+pub pair_at : {A B : Type 0} {holds : A → B → Type 0} (xs : List A) (ys : List B) → Pairs holds xs ys → (k : ℕ) (y : B) → slice_get ys k ≡ Some y → (x : A) × (slice_get xs k ≡ Some x) × holds x y
 pair_at _ _ Pairs.none k y e = absurd cc
 pair_at {holds = holds} _ _ (Pairs.next {x = x} {y = z} one rest) zero y e = (x, refl, subst (λ w. holds x w) (some_same z y e) one)
 pair_at _ _ (Pairs.next {xs = xs} {ys = ys} one rest) (suc k) y e = pair_at xs ys rest k y e
@@ -68,7 +63,7 @@ laid_out_code law ids classes program raw code few is =
     }
 
 -- a method that the file defines is one of its class data
-defined_there : (ids : Ids) (classes : List RawClass) (owner member : List ℕ) (raw : RawMethod) → method_defined ids classes owner member ≡ Some raw → (number : ℕ) × (class : RawClass) × (place : ℕ) × (slice_get classes number ≡ Some class) × (slice_get class.methods place ≡ Some raw)
+pub defined_there : (ids : Ids) (classes : List RawClass) (owner member : List ℕ) (raw : RawMethod) → method_defined ids classes owner member ≡ Some raw → (number : ℕ) × (class : RawClass) × (place : ℕ) × (slice_get classes number ≡ Some class) × (slice_get class.methods place ≡ Some raw)
 unfolding method_defined members_of method_among
 defined_there ids classes owner member raw e = from (position (λ (stated : ClassRow). bytes_eq (type_name ids stated.class) owner) ids.classes) e
   where
@@ -82,7 +77,7 @@ defined_there ids classes owner member raw e = from (position (λ (stated : Clas
     from None e = absurd cc
     from (Some number) e = of_class (slice_get classes number) number refl e
 
-resolved_code : (ids : Ids) (classes : List RawClass) (program : Program) (raw : RawMethod) (kind : MethodKind) (code : Code) → KindResolved ids classes program raw kind → kind ≡ kinds.Code code → (units : RawCode) × (raw.code ≡ Some units) × CodeResolved ids classes program units code
+pub resolved_code : (ids : Ids) (classes : List RawClass) (program : Program) (raw : RawMethod) (kind : MethodKind) (code : Code) → KindResolved ids classes program raw kind → kind ≡ kinds.Code code → (units : RawCode) × (raw.code ≡ Some units) × CodeResolved ids classes program units code
 resolved_code ids classes program raw _ code (KindResolved.native flag) e = absurd cc
 resolved_code ids classes program raw _ code (KindResolved.abstract other flag) e = absurd cc
 resolved_code ids classes program raw _ code (KindResolved.code {units = units} {code = mine} native abstract there is) e =

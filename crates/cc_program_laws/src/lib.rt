@@ -1,18 +1,17 @@
-//! Laws of the programs that files give.
+//! Laws of the programs that files give, and of what is read of a file.
 #![tactic(auto)]
 
-ghost use Rattle.cc_program_laws.specs.Laws.{ProgramsAreHierarchies, ProgramsAreWellFormed};
+mod linking;
+mod programs;
+mod reading;
 
-use cc_meaning_program::instructions_laid_out;
-
-/// A program of sound classes is well formed: its classes lead to Object, and its names and addresses are in order.
-pub fn programs_are_well_formed()
-    ensures { ProgramsAreWellFormed }
-{
-    instructions_laid_out();
-}
-
-/// The classes of a program of sound classes lead to Object.
-pub fn programs_are_hierarchies()
-    ensures { ProgramsAreHierarchies }
-{}
+pub use linking::{
+    classes_have_ancestries, interfaces_have_lists, spelled_classes_fit, spelled_tables_fit,
+};
+pub use programs::{
+    programs_are_complete, programs_are_hierarchies, programs_are_well_formed,
+    spelled_parts_are_bounded,
+};
+pub use reading::{
+    one_read_fault, spelled_programs_are_hierarchies, spelled_programs_have_no_fault,
+};

@@ -1,9 +1,9 @@
 //! What checking finds of a file.
 
 use crate::reading::text;
-use crate::sample::{adds_floats, adds_unset, prints_sum};
+use crate::sample::{adds_unset, prints_sum};
 use cc_check::{CheckFault, Summary, check_bytes, load_program};
-use cc_meaning::fault::{InsnFault, ProgramFault, VerifyFault};
+use cc_meaning::fault::VerifyFault;
 use std::test::Fail;
 
 /// What `prints_sum` has.
@@ -35,23 +35,5 @@ fn refuses_an_unset_register(rt: HostRuntime) -> Result<(), Fail> {
     let name = text(alloc, method.as_slice())?;
     assert_eq!(rt; name.as_str(), "LA;->main([Ljava/lang/String;)V");
     assert!(rt; matches!(fault, VerifyFault::IllTyped { pc: 1, .. }));
-    Ok(())
-}
-
-#[test]
-fn refuses_floats_and_other_classes(rt: HostRuntime) -> Result<(), Fail> {
-    let alloc = rt.alloc();
-    let file = adds_floats(alloc)?;
-    let Err(CheckFault::Program(ProgramFault::Insn { fault, .. })) = check_bytes(
-        alloc,
-        file.as_slice(),
-        None,
-    ) else {
-        return Err("read")?;
-    };
-    assert!(rt; matches!(fault, InsnFault::Float));
-    let file = prints_sum(alloc)?;
-    let found = check_bytes(alloc, file.as_slice(), Some("LB;"));
-    assert!(rt; matches!(&found, Err(CheckFault::Program(ProgramFault::NoMain))));
     Ok(())
 }

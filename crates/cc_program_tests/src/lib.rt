@@ -1,13 +1,27 @@
-//! Tests of the whole reader, and of what checking a file finds, over files that are built. They stand in a crate of their own, since a crate with tests is proved twice.
+//! Tests of whole programs: read, checked and refused.
 #![tactic(auto)]
 
 #[cfg(test)]
+mod check_words;
+#[cfg(test)]
+mod checking;
+#[cfg(test)]
 mod checks;
 #[cfg(test)]
+mod command;
+#[cfg(test)]
+mod exceptions;
+#[cfg(test)]
 mod faults;
+#[cfg(test)]
+mod listings_read;
+#[cfg(test)]
+mod malformed;
 #[cfg(test)]
 mod reading;
 #[cfg(test)]
 mod sample;
 #[cfg(test)]
 mod whole;
+#[cfg(test)]
+mod words;

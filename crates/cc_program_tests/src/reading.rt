@@ -1,7 +1,8 @@
 //! What reading comes to, as a text.
 
-use cc_meaning::fault::{DexFault, ProgramFault};
-use cc_program::{ReadFault, read_dex};
+use cc_meaning::fault::ProgramFault;
+use cc_meaning_program::ReadFault;
+use cc_program::read_dex;
 use std::alloc::{AllocError, Global};
 use std::process::Abort;
 use std::test::Fail;
@@ -43,20 +44,12 @@ fn shown_body(alloc: Global, fault: &ProgramFault) -> Result<String, AllocError>
             let method = text(alloc, method.as_slice())?;
             format!(in alloc; "BadIndex {method} {pc}")
         }
-        ProgramFault::Insn { method, pc, fault } => {
-            let method = text(alloc, method.as_slice())?;
-            format!(in alloc; "Insn {method} {pc} {fault:?}")
-        }
         other => format!(in alloc; "{other:?}"),
     }
 }
 
 fn shown(alloc: Global, fault: &ReadFault) -> Result<String, AllocError> {
     match fault {
-        ReadFault::Dex(DexFault::BadChecksum { stated, found }) => {
-            let differing = *stated ^ *found;
-            format!(in alloc; "Dex BadChecksum {differing}")
-        }
         ReadFault::Dex(fault) => format!(in alloc; "Dex {fault:?}"),
         ReadFault::Program(fault) => shown_program(alloc, fault),
         ReadFault::Memory => format!(in alloc; "Memory"),

@@ -2,10 +2,10 @@
 
 ghost use Rattle.std.specs.Prelude.{◌≡◌, ◌<◌, length, IfOk};
 
-use cc_assembly::{AssemblyFault, Member, ProgramCode, Step, assemble};
 use cc_builder::DexBuilder;
 use cc_meaning::instruction::{How, IntOp, Kind};
 use cc_meaning::lists::Bytes;
+use cc_test_programs::{AssemblyFault, Member, ProgramCode, Step, assemble};
 use std::alloc::Global;
 
 /// Access flags.
@@ -152,22 +152,6 @@ fn has_units(alloc: Global, units: &[u16]) -> Result<Bytes, AssemblyFault> {
 /// Behind a `nop` an `invoke-static` of row 1 of the methods, of which there is one.
 pub fn invokes_no_row(alloc: Global) -> Result<Bytes, AssemblyFault> {
     has_units(alloc, &[0x0000, 0x0071, 1, 0, 0x000e])
-}
-
-/// Behind two instructions an unused opcode.
-pub fn has_unused_opcode(alloc: Global) -> Result<Bytes, AssemblyFault> {
-    has_units(alloc, &[0x3112, 0x4212, 0x003e])
-}
-
-/// `add-float v0, v0, v0`.
-const ADD_FLOATS: [u16; 2] = [0x00a6, 0];
-
-/// That program with a method `u()V` that adds floats.
-pub fn adds_floats(alloc: Global) -> Result<Bytes, AssemblyFault> {
-    let mut builder = prints_below(alloc, OBJECT)?;
-    let steps = [Step::Units(&ADD_FLOATS), Step::ReturnVoid];
-    add(alloc, &mut builder, 0, ("u", "()V"), &steps)?;
-    bytes(&builder)
 }
 
 /// Class B and then class A, each with a `main` that returns at once.

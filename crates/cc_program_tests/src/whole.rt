@@ -9,36 +9,15 @@ use std::alloc::Global;
 use std::process::Abort;
 use std::test::Fail;
 
-/// The class of the file, the 26 built-in ones and the array of texts, in the order of their names.
-const CLASSES: [&str; 28] = [
-    "LA;",
-    "Ljava/io/PrintStream;",
-    "Ljava/lang/AbstractMethodError;",
-    "Ljava/lang/ArithmeticException;",
-    "Ljava/lang/ArrayIndexOutOfBoundsException;",
-    "Ljava/lang/ArrayStoreException;",
-    "Ljava/lang/ClassCastException;",
-    "Ljava/lang/Error;",
-    "Ljava/lang/Exception;",
-    "Ljava/lang/ExceptionInInitializerError;",
-    "Ljava/lang/IllegalArgumentException;",
-    "Ljava/lang/IllegalStateException;",
-    "Ljava/lang/IncompatibleClassChangeError;",
-    "Ljava/lang/IndexOutOfBoundsException;",
-    "Ljava/lang/LinkageError;",
-    "Ljava/lang/NegativeArraySizeException;",
-    "Ljava/lang/NoClassDefFoundError;",
-    "Ljava/lang/NullPointerException;",
-    "Ljava/lang/Object;",
-    "Ljava/lang/RuntimeException;",
-    "Ljava/lang/StackOverflowError;",
-    "Ljava/lang/String;",
-    "Ljava/lang/StringBuilder;",
-    "Ljava/lang/StringIndexOutOfBoundsException;",
-    "Ljava/lang/System;",
-    "Ljava/lang/Throwable;",
-    "Ljava/lang/VirtualMachineError;",
-    "[Ljava/lang/String;",
+/// The class of the file, the 26 built-in ones and the array of texts.
+const CLASSES: usize = 28;
+
+/// Some of them, by their places in the order of names.
+const NAMES: [(usize, &str); 4] = [
+    (0, "LA;"),
+    (1, "Ljava/io/PrintStream;"),
+    (18, "Ljava/lang/Object;"),
+    (27, "[Ljava/lang/String;"),
 ];
 
 /// The texts of the file in order: those that it names, and the short forms `VI` and `VL` of its prototypes.
@@ -80,8 +59,11 @@ fn sample(alloc: Global) -> Result<Program, Fail> {
 fn reads_classes(rt: HostRuntime) -> Result<(), Fail> {
     let alloc = rt.alloc();
     let program = sample(alloc)?;
-    assert_eq!(rt; program.classes.len(), CLASSES.len());
-    for (class, want) in program.classes.iter().zip(CLASSES) {
+    assert_eq!(rt; program.classes.len(), CLASSES);
+    for (place, want) in NAMES {
+        let Some(class) = program.classes.get(place) else {
+            return Err("no class")?;
+        };
         assert_eq!(rt; text(alloc, class.name.as_slice())?.as_str(), want);
     }
     let Some(class) = program.classes.get(A as usize) else {

@@ -1,5 +1,3 @@
-pub mod Below
-pub mod ByName
 pub mod ByPlace
 pub mod ClassLemmas
 pub mod Each
@@ -7,5 +5,4 @@ pub mod Members
 pub mod Places
 pub mod Resolving
 pub mod SeenLemmas
-pub mod Showing
 pub mod Values

@@ -11,7 +11,7 @@ use Rattle.cc_meaning.specs.declared.program.Program.{Program}
 use Rattle.cc_meaning.specs.Lookup.{method_named}
 use Rattle.cc_meaning.specs.Names.{method_name}
 use Rattle.cc_meaning.specs.Order.{IsBefore, IsRising, MethodsRise}
-use Rattle.cc_meaning_script.specs.Answers.{units_of}
+use Rattle.cc_units.specs.Units.{units_of}
 use Rattle.cc_meaning_script.specs.Script.{scripted_named, if_scripted}
 use Rattle.cc_script.specs.Named.{name_place}
 

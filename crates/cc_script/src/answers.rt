@@ -3,34 +3,26 @@
 ghost use Rattle.std.specs.Prelude.{◌≡◌, ◌^◌, ◌≤◌, ℕ, ℤ, length, Some, IfOk};
 ghost use Rattle.cc_meaning.specs.BuiltIn.{object_name, string_name};
 ghost use Rattle.cc_meaning.specs.Order.{IsRisingByName};
-ghost use Rattle.cc_meaning_script.specs.Answers.{is_loose, takes_text, can_be_thrown, is_outside, holds_of, superclass_of, is_below, fits_class, when, is_within, units_of, truth_answer, int_answer, long_answer, instance_answer, object_answer, array_answer, base_answer, nothing_answer, result_answer, thrown_answer, answer_for, class_listed};
+ghost use Rattle.cc_meaning_script.specs.Answers.{is_text_class, takes_text, can_be_thrown, is_outside, holds_of, when, is_within, truth_answer, int_answer, long_answer, instance_answer, object_answer, array_answer, base_answer, nothing_answer, result_answer, thrown_answer, answer_for, class_listed};
+ghost use Rattle.cc_units.specs.Units.{units_of};
 
-use crate::names::{add_text, class_of_name};
 use cc_builtin::{is_name, is_throwable};
-use cc_list::List;
 use cc_meaning::lists::ClassIx;
 use cc_meaning::program::{Base, Class, ClassKind, DexType, Program};
 use cc_meaning::report::Answer;
 use cc_meaning::text::Text;
 use cc_meaning_script::listed::Listed;
+use cc_program_names::class_named;
+use cc_types::{fits_class, is_loose};
+use cc_units::units_of;
 use std::alloc::{AllocError, Global};
 
-#[tactic(auto, unfolding(cc_meaning::specs::BuiltIn::object_name))]
-fn is_loose(class: &Class) -> bool
-    ensures { result ≡ is_loose class.now }
+#[tactic(auto, unfolding(cc_meaning::specs::BuiltIn::object_name, cc_meaning::specs::BuiltIn::string_name))]
+fn is_text_class(class: &Class) -> bool
+    ensures { result ≡ is_text_class class.now }
 {
-    match class.kind {
-        ClassKind::Outside => true,
-        ClassKind::File if class.is_interface => true,
-        _ => is_name(class.name.as_slice(), b"Ljava/lang/Object;"),
-    }
-}
-
-#[tactic(auto, unfolding(cc_meaning::specs::BuiltIn::string_name))]
-fn takes_text(class: &Class) -> bool
-    ensures { result ≡ takes_text class.now }
-{
-    is_loose(class) || is_name(class.name.as_slice(), b"Ljava/lang/String;")
+    let name = class.name.as_slice();
+    is_name(name, b"Ljava/lang/String;") || is_name(name, b"Ljava/lang/Object;")
 }
 
 fn can_be_thrown(class: &Class) -> bool
@@ -49,56 +41,20 @@ fn is_outside(class: &Class) -> bool
     matches!(class.kind, ClassKind::Outside | ClassKind::OutsideError)
 }
 
-fn superclass(program: &Program, class: ClassIx) -> Option<ClassIx>
-    ensures { result ≡ superclass_of program.now class }
+fn is_text_class_at(program: &Program, class: ClassIx) -> bool
+    ensures { result ≡ holds_of is_text_class program.now class }
 {
     match program.classes.get(class as usize) {
-        Some(class) => class.superclass,
-        None => None,
-    }
-}
-
-/// Whether a class is another or has it among its superclasses.
-#[tactic(auto, using(crate::proofs::Below::above, crate::proofs::Below::same, crate::proofs::Below::none_below, crate::proofs::Below::at_end), unfolding(cc_meaning_script::specs::Answers::is_below))]
-fn is_below(program: &Program, class: ClassIx, other: ClassIx) -> bool
-    ensures { result ≡ is_below program.now (length program.now.classes) (Some class) other }
-{
-    let mut at = class;
-    for _ in 0..program.classes.len() {
-        if at == other {
-            return true;
-        }
-        match superclass(program, at) {
-            Some(above) => at = above,
-            None => return false,
-        }
-    }
-    at == other
-}
-
-/// Whether an object of a class fits a declared class.
-fn fits_class(program: &Program, object: ClassIx, declared: ClassIx) -> bool
-    ensures { result ≡ fits_class program.now object declared }
-{
-    is_loose_at(program, declared) || is_below(program, object, declared)
-}
-
-fn is_loose_at(program: &Program, class: ClassIx) -> bool
-    ensures { result ≡ holds_of is_loose program.now class }
-{
-    match program.classes.get(class as usize) {
-        Some(class) => is_loose(class),
+        Some(class) => is_text_class(class),
         None => false,
     }
 }
 
-fn takes_text_at(program: &Program, class: ClassIx) -> bool
-    ensures { result ≡ holds_of takes_text program.now class }
+/// Whether a text fits a declared class.
+fn takes_text(program: &Program, declared: ClassIx) -> bool
+    ensures { result ≡ takes_text program.now declared }
 {
-    match program.classes.get(class as usize) {
-        Some(class) => takes_text(class),
-        None => false,
-    }
+    is_loose(declared, program) || is_text_class_at(program, declared)
 }
 
 fn can_be_thrown_at(program: &Program, class: ClassIx) -> bool
@@ -129,9 +85,8 @@ pub(crate) fn class_listed(
     requires rising { IsRisingByName program.now.classes }
     ensures { IfOk result (λ class. class ≡ class_listed program.now name.now) }
 {
-    let mut units = List::new(alloc);
-    add_text(&mut units, name.as_str())?;
-    Ok(class_of_name(program, units.as_slice()))
+    let units = units_of(alloc, name.as_str())?;
+    Ok(class_named(program, units.as_slice()))
 }
 
 fn truth_answer(said: &Listed) -> Option<Answer>
@@ -177,7 +132,7 @@ fn instance_answer(program: &Program, declared: ClassIx, class: Option<ClassIx>)
     ensures { result ≡ instance_answer program.now declared class }
 {
     let class = class?;
-    if is_outside_at(program, class) && fits_class(program, class, declared) {
+    if is_outside_at(program, class) && fits_class(class, declared, program) {
         Some(Answer::Instance(class))
     } else {
         None
@@ -187,9 +142,7 @@ fn instance_answer(program: &Program, declared: ClassIx, class: Option<ClassIx>)
 fn text_answer(alloc: Global, text: &Text) -> Result<Answer, AllocError>
     ensures { IfOk result (λ answer. answer ≡ Answer.Text (units_of text.now)) }
 {
-    let mut units = List::new(alloc);
-    add_text(&mut units, text.as_str())?;
-    Ok(Answer::Text(units))
+    Ok(Answer::Text(units_of(alloc, text.as_str())?))
 }
 
 fn object_answer(
@@ -205,7 +158,7 @@ fn object_answer(
     match said {
         Listed::Null => Ok(Some(Answer::Null)),
         Listed::Text(text) => {
-            if takes_text_at(program, declared) {
+            if takes_text(program, declared) {
                 Ok(Some(text_answer(alloc, text)?))
             } else {
                 Ok(None)

@@ -1,115 +1,10 @@
-//! Names of classes and methods as units of UTF-16, and what they name in a program.
+//! Names among a program's.
 
-ghost use Rattle.std.specs.Prelude.{◌≡◌, ◌^◌, ◌<◌, ◌≤◌, ◌++◌, length, map, position, IfOk, OnOk};
-ghost use Rattle.std.specs.List.{flat_map};
-ghost use Rattle.std.specs.Str.{bytes_eq};
-ghost use Rattle.cc_meaning.specs.Lookup.{class_named};
-ghost use Rattle.cc_meaning.specs.Names.{class_name, base_descriptor, descriptor, result_descriptor, member_name, method_name};
-ghost use Rattle.cc_meaning.specs.Order.{IsRising, IsRisingByName};
-ghost use Rattle.cc_meaning_script.specs.Answers.{units_of};
+ghost use Rattle.std.specs.Prelude.{◌≡◌};
+ghost use Rattle.cc_meaning.specs.Order.{IsRising};
 ghost use Rattle.cc_script.specs.Named.{name_place};
 
-use cc_list::List;
-use cc_meaning::lists::{ClassIx, Units};
-use cc_meaning::program::{Base, DexType, Method, Program};
-use std::alloc::{AllocError, Global};
-
-const BRACKET: u16 = 91;
-
-pub(crate) fn add_ascii(name: &mut Units, text: &[u8]) -> Result<(), AllocError>
-    ensures { OnOk result (name.new ≡ name.old ++ text.now) }
-{
-    for byte in text {
-        name.push(u16::from(*byte))?;
-    }
-    Ok(())
-}
-
-fn add_class_name(name: &mut Units, program: &Program, class: ClassIx) -> Result<(), AllocError>
-    ensures { OnOk result (name.new ≡ name.old ++ class_name program.now class) }
-{
-    match program.classes.get(class as usize) {
-        Some(class) => name.extend_from_slice(class.name.as_slice()),
-        None => Ok(()),
-    }
-}
-
-fn add_base(name: &mut Units, program: &Program, base: Base) -> Result<(), AllocError>
-    ensures { OnOk result (name.new ≡ name.old ++ base_descriptor program.now base) }
-{
-    match base {
-        Base::Boolean => add_ascii(name, b"Z"),
-        Base::Byte => add_ascii(name, b"B"),
-        Base::Short => add_ascii(name, b"S"),
-        Base::Char => add_ascii(name, b"C"),
-        Base::Int => add_ascii(name, b"I"),
-        Base::Long => add_ascii(name, b"J"),
-        Base::Class(class) => add_class_name(name, program, class),
-    }
-}
-
-fn add_descriptor(name: &mut Units, program: &Program, ty: DexType) -> Result<(), AllocError>
-    ensures { OnOk result (name.new ≡ name.old ++ descriptor program.now ty) }
-{
-    for _ in 0..ty.dims {
-        name.push(BRACKET)?;
-    }
-    add_base(name, program, ty.base)
-}
-
-fn add_types(name: &mut Units, program: &Program, types: &[DexType]) -> Result<(), AllocError>
-    ensures { OnOk result (name.new ≡ name.old ++ flat_map (descriptor program.now) types.now) }
-{
-    for ty in types {
-        add_descriptor(name, program, *ty)?;
-    }
-    Ok(())
-}
-
-fn add_result(
-    name: &mut Units,
-    program: &Program,
-    answer: Option<DexType>,
-) -> Result<(), AllocError>
-    ensures { OnOk result (name.new ≡ name.old ++ result_descriptor program.now answer) }
-{
-    match answer {
-        Some(ty) => add_descriptor(name, program, ty),
-        None => add_ascii(name, b"V"),
-    }
-}
-
-fn add_member(name: &mut Units, program: &Program, method: &Method) -> Result<(), AllocError>
-    ensures { OnOk result (name.new ≡ name.old ++ member_name program.now method.now) }
-{
-    name.extend_from_slice(method.name.as_slice())?;
-    add_ascii(name, b"(")?;
-    add_types(name, program, method.params.as_slice())?;
-    add_ascii(name, b")")?;
-    add_result(name, program, method.result)
-}
-
-/// A method's name as printed.
-fn name_of_method(alloc: Global, program: &Program, method: &Method) -> Result<Units, AllocError>
-    ensures { IfOk result (λ name. name ≡ method_name program.now method.now) }
-{
-    let mut name = List::new(alloc);
-    add_class_name(&mut name, program, method.class)?;
-    add_ascii(&mut name, b"->")?;
-    add_member(&mut name, program, method)?;
-    Ok(name)
-}
-
-/// The names of a program's methods, in their order.
-pub(crate) fn method_names(alloc: Global, program: &Program) -> Result<List<Units>, AllocError>
-    ensures { IfOk result (λ names. names ≡ map (method_name program.now) program.now.methods) }
-{
-    let mut names = List::new(alloc);
-    for method in program.methods.as_slice() {
-        names.push(name_of_method(alloc, program, method)?)?;
-    }
-    Ok(names)
-}
+use cc_meaning::lists::Units;
 
 /// The place of a name among names that rise.
 pub(crate) fn name_place(names: &[Units], name: &[u16]) -> Option<usize>
@@ -120,31 +15,4 @@ pub(crate) fn name_place(names: &[Units], name: &[u16]) -> Option<usize>
         Ok(at) => Some(at),
         Err(_) => None,
     }
-}
-
-pub(crate) fn class_of_name(program: &Program, name: &[u16]) -> Option<ClassIx>
-    requires few { length program.now.classes ≤ 2 ^ 32 }
-    requires rising { IsRisingByName program.now.classes }
-    ensures { result ≡ class_named name.now program.now }
-{
-    match program
-        .classes
-        .as_slice()
-        .binary_search_by(|class| class.name.as_slice().cmp(&name))
-    {
-        Ok(at) => Some(at as u32),
-        Err(_) => None,
-    }
-}
-
-/// Adds a text, as its units of UTF-16.
-pub(crate) fn add_text(units: &mut Units, text: &str) -> Result<(), AllocError>
-    ensures { OnOk result (units.new ≡ units.old ++ units_of text.now) }
-{
-    for c in text.chars() {
-        let mut room = [0u16; 2];
-        let more = c.encode_utf16(&mut room);
-        units.extend_from_slice(more)?;
-    }
-    Ok(())
 }

@@ -9,12 +9,12 @@ ghost use Rattle.cc_meaning_script.specs.Script.{classes_at, with_classes, scrip
 ghost use Rattle.cc_script.specs.Gives.{Gives};
 
 use crate::classes::listed_classes;
-use crate::names::method_names;
 use crate::resolve::classes_at;
 use cc_meaning::fault::ScriptFault;
 use cc_meaning::program::Program;
 use cc_meaning::script::Script;
 use cc_meaning_script::listed::ListedClasses;
+use cc_program_names::method_names;
 use serde_json::Value;
 use std::alloc::Global;
 

@@ -4,14 +4,14 @@ ghost use Rattle.std.specs.Prelude.{◌≡◌, ◌+◌, ◌^◌, ◌<◌, ◌≤
 ghost use Rattle.cc_meaning.specs.declared.program.Method.{Method};
 ghost use Rattle.cc_meaning.specs.Names.{method_name};
 ghost use Rattle.cc_meaning.specs.Order.{IsRisingByName, MethodsRise};
-ghost use Rattle.cc_meaning_script.specs.Answers.{units_of};
 ghost use Rattle.cc_meaning_script.specs.Listed.{capped};
 ghost use Rattle.cc_meaning_script.specs.Script.{scripted_named, if_scripted, method_at, given_at, methods_from, givens_from, class_members, class_at, classes_at, result_of};
 ghost use Rattle.cc_script.specs.Gives.{Gives};
+ghost use Rattle.cc_units.specs.Units.{units_of};
 
 use crate::answers::{answer_for, class_listed};
 use crate::classes::place_of;
-use crate::names::{add_ascii, add_text, name_place};
+use crate::names::name_place;
 use cc_list::List;
 use cc_meaning::fault::ScriptFault;
 use cc_meaning::lists::{ClassIx, MethodIx, MethodList, Units};
@@ -19,6 +19,8 @@ use cc_meaning::program::{DexType, MethodKind, Program};
 use cc_meaning::script::{Given, GivenList, ScriptClass, ScriptClasses};
 use cc_meaning::text::Text;
 use cc_meaning_script::listed::{ListedAnswer, ListedClass};
+use cc_program_names::add_ascii;
+use cc_units::{add_text, units_of};
 use std::alloc::{AllocError, Global};
 
 /// The method of a number, where it is outside or native.
@@ -44,8 +46,7 @@ fn result_of(program: &Program, method: MethodIx) -> Option<DexType>
 fn full_name(alloc: Global, class: &Text, member: &Text) -> Result<Units, AllocError>
     ensures { IfOk result (λ name. name ≡ units_of class.now ++ codes "->" ++ units_of member.now) }
 {
-    let mut name = List::new(alloc);
-    add_text(&mut name, class.as_str())?;
+    let mut name = units_of(alloc, class.as_str())?;
     add_ascii(&mut name, b"->")?;
     add_text(&mut name, member.as_str())?;
     Ok(name)

@@ -3,7 +3,7 @@ use Rattle.std.proofs.Common.{◌≡◌, ◌⊎◌, inl, inr, ℕ, zero, suc, Li
 use Rattle.std.specs.Prelude.{Contains}
 use Rattle.std.specs.List.{flat_map}
 use Rattle.std.proofs.lemmas.List.Elements.{Contains-append_left, Contains-append_right, Contains-append_cases}
-use Rattle.cc_meaning_classes.specs.Classes.{EachPair}
+use Rattle.cc_meaning_dex.specs.Classes.{EachPair}
 use Rattle.cc_names.specs.InOrder.{AreInOrder}
 use Rattle.cc_names.proofs.Ordered.{mapped_from}
 

@@ -3,7 +3,7 @@ use Rattle.std.proofs.Common.{◌+◌, ◌≤◌, List, [], ◌∷◌, ◌++◌,
 use Rattle.std.specs.List.{flat_map}
 use Rattle.std.proofs.lemmas.List.{length-append, length-map}
 use Rattle.cc_meaning.specs.declared.file.Ids.{Ids}
-use Rattle.cc_rows.specs.Rows.{FewRows}
+use Rattle.cc_tables.specs.Rows.{FewRows}
 use Rattle.cc_tables.specs.declared.needs.Needs.{Needs}
 use Rattle.cc_tables.specs.Made.{AreProtosMade, AreTypesMade, HasMethods, HasProtos, HasTypes}
 use Rattle.cc_tables.specs.Needs.{descriptors_of, field_texts, method_texts, texts_of}

@@ -1,3 +1,10 @@
+pub mod Searched
+pub mod Typed
+pub mod Leading
+pub mod Splitting
+pub mod PrototypeRows
+pub mod MemberRows
+pub mod Compared
 pub mod Among
 pub mod Counts
 pub mod Mapped

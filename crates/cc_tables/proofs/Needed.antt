@@ -5,8 +5,8 @@ use Rattle.std.specs.List.{flat_map}
 use Rattle.std.proofs.lemmas.List.Elements.{Contains-append_left, Contains-append_right, Contains-append_cases}
 use Rattle.cc_meaning.specs.declared.listing.RowName.{RowName}
 use Rattle.cc_meaning.specs.declared.listing.RowName.TheVariants as row
-use Rattle.cc_meaning_building.specs.WellNamed.{IsPrototypeName}
-use Rattle.cc_rows.specs.Rows.{IsSplit}
+use Rattle.cc_meaning_builder.specs.WellNamed.{IsPrototypeName}
+use Rattle.cc_tables.specs.Rows.{IsSplit}
 use Rattle.cc_tables.specs.declared.needs.NamedField.{NamedField}
 use Rattle.cc_tables.specs.declared.needs.NamedMethod.{NamedMethod}
 use Rattle.cc_tables.specs.declared.needs.Needs.{Needs}

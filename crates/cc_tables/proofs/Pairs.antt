@@ -1,6 +1,6 @@
 -- Two lists of things that belong together one by one.
 use Rattle.std.proofs.Common.{List, [], ◌∷◌, ◌++◌}
-use Rattle.cc_meaning_classes.specs.Classes.{EachPair}
+use Rattle.cc_meaning_dex.specs.Classes.{EachPair}
 
 -- one more of each
 pub each_push : {A B : Type 0} (holds : A → B → Type 0) (xs : List A) (ys : List B) (x : A) (y : B) → EachPair holds xs ys → holds x y → EachPair holds (xs ++ x ∷ []) (ys ++ y ∷ [])

@@ -8,8 +8,8 @@ use Rattle.cc_meaning.specs.declared.file.Ids.{Ids}
 use Rattle.cc_meaning.specs.declared.file.MethodRow.{MethodRow}
 use Rattle.cc_meaning.specs.declared.file.ProtoRow.{ProtoRow}
 use Rattle.cc_meaning_program.specs.Named.{text_of, type_name}
-use Rattle.cc_meaning_building.specs.declared.content.ListedClass.{ListedClass}
-use Rattle.cc_meaning_building.specs.Tables.{field_key, method_key, prototype_key}
+use Rattle.cc_meaning_builder.specs.declared.content.ListedClass.{ListedClass}
+use Rattle.cc_meaning_builder.specs.Tables.{field_key, method_key, prototype_key}
 use Rattle.cc_names.proofs.Ordered.{contains_mapped, mapped_from}
 use Rattle.cc_tables.specs.declared.needs.NamedField.{NamedField}
 use Rattle.cc_tables.specs.declared.needs.NamedMethod.{NamedMethod}

@@ -16,17 +16,17 @@ use Rattle.cc_meaning.specs.declared.file.ProtoRow.{ProtoRow}
 use Rattle.cc_meaning.specs.declared.listing.RowName.{RowName}
 use Rattle.cc_meaning.specs.declared.listing.RowName.TheVariants as row
 use Rattle.cc_meaning.specs.Order.{IsBefore}
-use Rattle.cc_meaning_file.specs.Descriptors.{IsClassDescriptor, IsDescriptor, IsValueDescriptor, dimensions, is_primitive, names_class, names_reference, names_value}
-use Rattle.cc_meaning_classes.specs.Classes.{EachPair}
+use Rattle.cc_meaning_dex.specs.Descriptors.{IsClassDescriptor, IsDescriptor, IsValueDescriptor, dimensions, is_primitive, names_class, names_reference, names_value}
+use Rattle.cc_meaning_dex.specs.Classes.{EachPair}
 use Rattle.cc_meaning_program.specs.Named.{prototype_of, text_of, type_name}
-use Rattle.cc_meaning_linking.specs.Rows.{ClassFits, FieldFits, FitTables, IsTypeRow, MethodFits, PrototypeFits}
-use Rattle.cc_meaning_building.specs.declared.content.ListedClass.{ListedClass}
-use Rattle.cc_meaning_building.specs.Named.{Means, all_names, class_names, listed_names}
-use Rattle.cc_meaning_building.specs.Tables.{AreNeeded, AreOrdered, AreTables, IsClassRow, NeedsField, NeedsMethod, NeedsPrototype, NeedsText, NeedsType, short_form, short_letter}
-use Rattle.cc_meaning_building.specs.Tables as needed
-use Rattle.cc_meaning_building.specs.WellNamed.{ClassIsNamed, IsReferenceName, IsWellNamed, WellNamed}
+use Rattle.cc_meaning_program.specs.Rows.{ClassFits, FieldFits, FitTables, IsTypeRow, MethodFits, PrototypeFits}
+use Rattle.cc_meaning_builder.specs.declared.content.ListedClass.{ListedClass}
+use Rattle.cc_meaning_builder.specs.Named.{Means, all_names, class_names, listed_names}
+use Rattle.cc_meaning_builder.specs.Tables.{AreNeeded, AreOrdered, AreTables, IsClassRow, NeedsField, NeedsMethod, NeedsPrototype, NeedsText, NeedsType, short_form, short_letter}
+use Rattle.cc_meaning_builder.specs.Tables as needed
+use Rattle.cc_meaning_builder.specs.WellNamed.{ClassIsNamed, IsReferenceName, IsWellNamed, WellNamed}
 use Rattle.cc_names.proofs.Ordered.{contains_mapped, mapped_from}
-use Rattle.cc_rows.specs.Rows.{IsSplit}
+use Rattle.cc_tables.specs.Rows.{IsSplit}
 use Rattle.cc_tables.specs.declared.needs.NamedField.{NamedField}
 use Rattle.cc_tables.specs.declared.needs.NamedMethod.{NamedMethod}
 use Rattle.cc_tables.specs.declared.needs.Needs.{Needs}

@@ -2,8 +2,8 @@
 use Rattle.std.specs.Prelude.{◌≡◌, ◌↔◌, ℕ, ◌^◌, ◌<◌, List, length, map, Contains}
 use Rattle.cc_meaning.specs.Order.{IsRising}
 use Rattle.cc_meaning.specs.declared.file.Ids.{Ids}
-use Rattle.cc_meaning_building.specs.declared.content.ListedClass.{ListedClass}
-use Rattle.cc_meaning_building.specs.Tables.{field_key, method_key, prototype_key}
+use Rattle.cc_meaning_builder.specs.declared.content.ListedClass.{ListedClass}
+use Rattle.cc_meaning_builder.specs.Tables.{field_key, method_key, prototype_key}
 use Rattle.cc_names.specs.InOrder.{AreInOrder}
 use Rattle.cc_tables.specs.declared.needs.Needs.{Needs}
 use Rattle.cc_tables.specs.Needs.{descriptors_of, texts_of}

@@ -3,10 +3,10 @@ use Rattle.std.specs.Prelude.{◌≡◌, ℕ, List, [], ◌∷◌, ◌++◌, map
 use Rattle.std.specs.List.{flat_map}
 use Rattle.cc_meaning.specs.declared.listing.RowName.{RowName}
 use Rattle.cc_meaning.specs.declared.listing.RowName.TheVariants as row
-use Rattle.cc_meaning_classes.specs.Classes.{EachPair}
-use Rattle.cc_meaning_building.specs.Tables.{short_letter}
-use Rattle.cc_meaning_building.specs.WellNamed.{IsPrototypeName}
-use Rattle.cc_rows.specs.Rows.{IsSplit}
+use Rattle.cc_meaning_dex.specs.Classes.{EachPair}
+use Rattle.cc_meaning_builder.specs.Tables.{short_letter}
+use Rattle.cc_meaning_builder.specs.WellNamed.{IsPrototypeName}
+use Rattle.cc_tables.specs.Rows.{IsSplit}
 use Rattle.cc_tables.specs.declared.needs.NamedField.{NamedField}
 use Rattle.cc_tables.specs.declared.needs.NamedMethod.{NamedMethod}
 use Rattle.cc_tables.specs.declared.needs.Needs.{Needs}

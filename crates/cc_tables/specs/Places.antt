@@ -7,8 +7,8 @@ use Rattle.cc_meaning.specs.declared.file.FieldRow.{FieldRow}
 use Rattle.cc_meaning.specs.declared.file.Ids.{Ids}
 use Rattle.cc_meaning.specs.declared.file.MethodRow.{MethodRow}
 use Rattle.cc_meaning.specs.declared.file.ProtoRow.{ProtoRow}
-use Rattle.cc_meaning_building.specs.declared.content.ListedClass.{ListedClass}
-use Rattle.cc_meaning_building.specs.Tables.{prototype_key}
+use Rattle.cc_meaning_builder.specs.declared.content.ListedClass.{ListedClass}
+use Rattle.cc_meaning_builder.specs.Tables.{prototype_key}
 use Rattle.cc_tables.specs.declared.needs.NamedField.{NamedField}
 use Rattle.cc_tables.specs.declared.needs.NamedMethod.{NamedMethod}
 

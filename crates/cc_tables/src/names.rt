@@ -3,12 +3,12 @@
 ghost use Rattle.std.specs.Prelude.{◌≡◌, ◌++◌, map, IfOk, OnOk};
 ghost use Rattle.std.specs.List.{flat_map};
 ghost use Rattle.cc_meaning.specs.declared.listing.RowName.TheVariants as row;
-ghost use Rattle.cc_meaning_building.specs.Named.{all_names, catch_names, class_names, code_names, field_names, listed_names, method_names, try_names, value_names};
+ghost use Rattle.cc_meaning_builder.specs.Named.{all_names, catch_names, class_names, code_names, field_names, listed_names, method_names, try_names, value_names};
 
 use cc_list::List;
 use cc_meaning::listing::{ListedCatch, ListedTry, ListedValue, Listing, Mark, RowName};
 use cc_meaning::lists::Units;
-use cc_meaning_building::content::{ListedClass, ListedField, ListedMethod};
+use cc_meaning_builder::content::{ListedClass, ListedField, ListedMethod};
 use std::alloc::{AllocError, Global};
 
 /// The names of rows.

@@ -3,14 +3,14 @@
 ghost use Rattle.std.specs.Prelude.{◌≡◌, ◌++◌, ◌∷◌, [], List, IfOk, OnOk};
 ghost use Rattle.std.specs.List.{flat_map};
 ghost use Rattle.cc_meaning.specs.declared.listing.RowName.{RowName as NameOfRow};
-ghost use Rattle.cc_meaning_classes.specs.Classes.{EachPair};
+ghost use Rattle.cc_meaning_dex.specs.Classes.{EachPair};
 ghost use Rattle.cc_tables.specs.Needs.{AreNeeds, IsMethodNamed, classes_in, fields_in, methods_in, texts_in};
 
+use crate::split_prototype;
 use cc_list::List;
 use cc_meaning::fault::Memory;
 use cc_meaning::listing::RowName;
 use cc_meaning::lists::{Texts, Units};
-use cc_rows::split_prototype;
 use std::alloc::{AllocError, Global};
 
 /// A field that is named: the descriptor of its class, its name, and the descriptor of its type.

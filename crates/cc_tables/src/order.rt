@@ -3,7 +3,7 @@
 ghost use Rattle.std.specs.Prelude.{◌≡◌, ◌∷◌, [], map, IfOk};
 ghost use Rattle.std.specs.Cmp.Lexicographic.{slice_cmp};
 ghost use Rattle.std.specs.Ordering.{nat_cmp};
-ghost use Rattle.cc_meaning_building.specs.Tables.{field_key, method_key, prototype_key};
+ghost use Rattle.cc_meaning_builder.specs.Tables.{field_key, method_key, prototype_key};
 ghost use Rattle.cc_names.specs.InOrder.{AreInOrder};
 ghost use Rattle.cc_tables.specs.Places.{alone};
 
@@ -59,7 +59,7 @@ struct ByField;
 impl Naming for ByField {
     type Item = FieldRow;
 
-    ghost use Rattle.cc_meaning_building.specs.Tables.{field_key};
+    ghost use Rattle.cc_meaning_builder.specs.Tables.{field_key};
 
     ghost name = { λ _ field. field_key field };
 
@@ -78,7 +78,7 @@ struct ByMethod;
 impl Naming for ByMethod {
     type Item = MethodRow;
 
-    ghost use Rattle.cc_meaning_building.specs.Tables.{method_key};
+    ghost use Rattle.cc_meaning_builder.specs.Tables.{method_key};
 
     ghost name = { λ _ method. method_key method };
 
@@ -99,7 +99,7 @@ struct ByPrototype<'a> {
 impl<'a> Naming for ByPrototype<'a> {
     type Item = &'a ProtoRow;
 
-    ghost use Rattle.cc_meaning_building.specs.Tables.{prototype_key};
+    ghost use Rattle.cc_meaning_builder.specs.Tables.{prototype_key};
 
     ghost name = { λ _ prototype. prototype_key prototype.now };
 

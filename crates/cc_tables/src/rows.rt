@@ -11,7 +11,7 @@ use cc_meaning::file::{
     ClassRow, ClassRows, FieldRow, FieldRows, Ids, MethodRow, MethodRows, ProtoRow, ProtoRows,
 };
 use cc_meaning::lists::{Rows, Units};
-use cc_meaning_building::content::ListedClass;
+use cc_meaning_builder::content::ListedClass;
 use std::alloc::{AllocError, Global};
 
 /// The rows of texts.

@@ -1,9 +1,9 @@
 //! The tables of what was added.
 
 ghost use Rattle.std.specs.Prelude.{IfOk};
-ghost use Rattle.cc_meaning_building.specs.Tables.{AreOrdered, AreTables};
-ghost use Rattle.cc_meaning_building.specs.WellNamed.{WellNamed};
-ghost use Rattle.cc_rows.specs.Rows.{FewRows};
+ghost use Rattle.cc_meaning_builder.specs.Tables.{AreOrdered, AreTables};
+ghost use Rattle.cc_meaning_builder.specs.WellNamed.{WellNamed};
+ghost use Rattle.cc_tables.specs.Rows.{FewRows};
 ghost use Rattle.cc_tables.specs.Made.{AreMade, HasFields, HasMethods, HasProtos, HasTypes};
 
 use crate::names::names_in;
@@ -13,7 +13,7 @@ use crate::rows::{class_rows, field_rows, method_rows, proto_rows, text_rows};
 use crate::texts::{descriptors_of, only_texts, text_table};
 use cc_meaning::fault::Memory;
 use cc_meaning::file::Ids;
-use cc_meaning_building::content::Content;
+use cc_meaning_builder::content::Content;
 use std::alloc::{AllocError, Global};
 
 /// The tables of texts and of types; the others have no rows.

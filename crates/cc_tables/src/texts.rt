@@ -2,7 +2,7 @@
 
 ghost use Rattle.std.specs.Prelude.{◌≡◌, ◌++◌, ◌∷◌, [], ◌≤◌, ◌<◌, ◌^◌, ℕ, List, Contains, length, map, IfOk, OnOk};
 ghost use Rattle.std.specs.List.{flat_map};
-ghost use Rattle.cc_meaning_building.specs.Tables.{short_letter};
+ghost use Rattle.cc_meaning_builder.specs.Tables.{short_letter};
 ghost use Rattle.cc_tables.specs.Needs.{descriptors_of, field_texts, field_types, method_texts, method_types, short_of, texts_of};
 ghost use Rattle.cc_tables.specs.Made.{IsTextTable};
 

@@ -2,7 +2,7 @@
 use Rattle.std.proofs.Common.{◌≡◌, ◌≢◌, ℕ, ◌+◌, ◌-◌, ◌*◌, ◌<◌, ◌≤◌, ◌⊎◌, true, false, List, [], ◌∷◌, length, drop, get_or, Some, None, Ok, Err, refl, arith}
 use Rattle.std.proofs.lemmas.Bool.Decides.{nat_tests}
 use Rattle.cc_meaning.specs.declared.fault.TextFault.TheVariants.{CutOff, BadForm}
-use Rattle.cc_meaning_file.specs.Mutf8.{front_of, front_of_two, front_of_three, goes_on, begins_three}
+use Rattle.cc_meaning_dex.specs.Mutf8.{front_of, front_of_two, front_of_three, goes_on, begins_three}
 
 -- forms of two bytes
 pub two_none : (at a : ℕ) (bs : List ℕ) → length bs ≡ 0 → a ≡ 193 → front_of_two at a bs ≡ Err (BadForm at)

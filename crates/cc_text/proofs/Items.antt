@@ -4,10 +4,10 @@ use Rattle.std.specs.Prelude.{IfErr, IsOk, IsSome}
 use Rattle.cc_meaning.specs.declared.fault.LebFault.TheVariants as leb
 use Rattle.cc_meaning.specs.declared.fault.TextFault.{TextFault}
 use Rattle.cc_meaning.specs.declared.fault.TextFault.TheVariants as fault
-use Rattle.cc_meaning_file.specs.Leb128.{uleb_at}
-use Rattle.cc_meaning_file.specs.Mutf8.{mutf8_at}
-use Rattle.cc_meaning_file.specs.Texts.{SpellsText, text_counted, text_item_at, units_of, text_at}
-use Rattle.cc_meaning_file.specs.Laws.{TextAgrees}
+use Rattle.cc_meaning_dex.specs.Leb128.{uleb_at}
+use Rattle.cc_meaning_dex.specs.Mutf8.{mutf8_at}
+use Rattle.cc_meaning_dex.specs.Texts.{SpellsText, text_counted, text_item_at, units_of, text_at}
+use Rattle.cc_meaning_dex.specs.TextLaws.{TextAgrees}
 
 module _ (file : List ℕ) (at : ℕ) where
   pub item_counted : (count place : ℕ) → Ok (count, place) ≡ uleb_at file at → text_item_at file at ≡ mutf8_at file place count

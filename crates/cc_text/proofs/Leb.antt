@@ -6,8 +6,8 @@ use Rattle.std.proofs.lemmas.List.{drop_more, drop_all}
 use Rattle.std.proofs.Math.Nat.{pow-suc}
 use Rattle.cc_meaning.specs.declared.fault.LebFault.{LebFault}
 use Rattle.cc_meaning.specs.declared.fault.LebFault.TheVariants.{CutOff, TooBig}
-use Rattle.cc_meaning_file.specs.Leb128.{one_more, leb_size, leb_value, uleb_judged, uleb_sized, uleb_at, SpellsUleb}
-use Rattle.cc_meaning_file.specs.Laws.{UlebAgrees}
+use Rattle.cc_meaning_dex.specs.Leb128.{one_more, leb_size, leb_value, uleb_judged, uleb_sized, uleb_at, SpellsUleb}
+use Rattle.cc_meaning_dex.specs.TextLaws.{UlebAgrees}
 
 pub leb_value-below : (k : ℕ) (bytes : List ℕ) → length bytes ≤ k → leb_value bytes < 128 ^ k
 unfolding leb_value

@@ -6,8 +6,8 @@ use Rattle.std.proofs.lemmas.Bool.Decides.{nat_tests}
 use Rattle.cc_text.proofs.Fronts.{front_none}
 use Rattle.cc_meaning.specs.declared.fault.TextFault.{TextFault}
 use Rattle.cc_meaning.specs.declared.fault.TextFault.TheVariants.{CutOff, BadCount, Memory}
-use Rattle.cc_meaning_file.specs.Mutf8.{SpellsMutf8, front_of, behind_unit, text_of, counted, mutf8_at}
-use Rattle.cc_meaning_file.specs.Laws.{TextSteps, Mutf8Agrees, Mutf8Answers}
+use Rattle.cc_meaning_dex.specs.Mutf8.{SpellsMutf8, front_of, behind_unit, text_of, counted, mutf8_at}
+use Rattle.cc_meaning_dex.specs.TextLaws.{TextSteps, Mutf8Agrees, Mutf8Answers}
 use Rattle.cc_text.specs.Measured.{measured}
 
 abbrev pub Read : Type 0

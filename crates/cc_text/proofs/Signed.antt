@@ -8,8 +8,8 @@ use Rattle.std.proofs.lemmas.Bool.Decides.{nat_tests}
 use Rattle.std.proofs.lemmas.List.{drop_all}
 use Rattle.cc_meaning.specs.declared.fault.LebFault.{LebFault}
 use Rattle.cc_meaning.specs.declared.fault.LebFault.TheVariants.{CutOff, TooBig}
-use Rattle.cc_meaning_file.specs.Leb128.{leb_size, signed_group, signed_leb_value, FitsI32, fits_i32, sleb_judged, sleb_sized, sleb_at, SpellsSleb}
-use Rattle.cc_meaning_file.specs.Laws.{SlebAgrees}
+use Rattle.cc_meaning_dex.specs.Leb128.{leb_size, signed_group, signed_leb_value, FitsI32, fits_i32, sleb_judged, sleb_sized, sleb_at, SpellsSleb}
+use Rattle.cc_meaning_dex.specs.TextLaws.{SlebAgrees}
 use Rattle.cc_text.proofs.Leb.{size_nil}
 
 group_low : (g : ℕ) → g < 64 → signed_group g ≡ pos g

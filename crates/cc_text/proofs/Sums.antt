@@ -1,7 +1,7 @@
 -- How the sums of the checksum go on.
 use Rattle.std.proofs.Common.{◌≡◌, ℕ, ◌+◌, ◌*◌, ◌%◌, ◌<◌, ◌≤◌, List, [], ◌∷◌, length, drop, get_or, refl, sym, ap, ◌∙◌, arith}
 use Rattle.std.proofs.lemmas.List.{drop_more, drop_all}
-use Rattle.cc_meaning_file.specs.Adler32.{adler_sums, adler_of, adler32_of}
+use Rattle.cc_meaning_dex.specs.Adler32.{adler_sums, adler_of, adler32_of}
 
 -- a and b are the sums of the first i bytes
 pub record Sums (bytes : List ℕ) (i a b : ℕ) : Type 0 where

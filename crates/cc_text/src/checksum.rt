@@ -1,7 +1,7 @@
 //! The checksum Adler-32 of RFC 1950.
 
 ghost use Rattle.std.specs.Prelude.{◌≡◌};
-ghost use Rattle.cc_meaning_file.specs.Adler32.{adler32_of};
+ghost use Rattle.cc_meaning_dex.specs.Adler32.{adler32_of};
 
 /// The checksum of these bytes.
 pub fn adler32(bytes: &[u8]) -> u32

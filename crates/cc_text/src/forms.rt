@@ -1,7 +1,7 @@
 //! The forms of units in MUTF-8.
 
 ghost use Rattle.std.specs.Prelude.{◌≡◌, ◌≤◌, ◌<◌};
-ghost use Rattle.cc_meaning_file.specs.Mutf8.{front_of, front_of_two, front_of_three, goes_on, begins_three};
+ghost use Rattle.cc_meaning_dex.specs.Mutf8.{front_of, front_of_two, front_of_three, goes_on, begins_three};
 
 use cc_meaning::fault::TextFault;
 

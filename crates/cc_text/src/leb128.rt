@@ -1,10 +1,10 @@
 //! Numbers in LEB128.
 
 ghost use Rattle.std.specs.Prelude.{◌≡◌, ◌≤◌, ◌<◌, ◌^◌, ℕ, ℤ, length, IfOk, OnErr};
-ghost use Rattle.cc_meaning_file.specs.Leb128.{leb_size, leb_value, signed_leb_value, uleb_at, sleb_at, SpellsUleb, SpellsSleb};
+ghost use Rattle.cc_meaning_dex.specs.Leb128.{leb_size, leb_value, signed_leb_value, uleb_at, sleb_at, SpellsUleb, SpellsSleb};
 
 use cc_meaning::fault::LebFault;
-use cc_meaning_file::{sleb_agrees, uleb_agrees};
+use cc_meaning_dex::{sleb_agrees, uleb_agrees};
 
 /// The number of 32 bits in ULEB128 at `at`, and the place after it.
 pub fn uleb(bytes: &[u8], at: usize) -> Result<(u32, usize), LebFault>

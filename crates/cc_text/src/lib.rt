@@ -2,13 +2,12 @@
 #![tactic(auto)]
 
 mod checksum;
+mod fixed;
 mod forms;
 mod leb128;
 mod texts;
 
 pub use checksum::adler32;
+pub use fixed::{u16_at, u32_at};
 pub use leb128::{sleb, uleb};
 pub use texts::{mutf8, text};
-
-#[cfg(test)]
-mod tests;

@@ -1,14 +1,14 @@
 //! Texts in MUTF-8.
 
 ghost use Rattle.std.specs.Prelude.{◌≡◌, ◌≢◌, ◌≤◌, ◌<◌, ◌^◌, ◌⊎◌, ℕ, List, length, drop, IsOk, IfOk, IfErr, IsErrOf, IsSome};
-ghost use Rattle.cc_meaning_file.specs.Mutf8.{SpellsMutf8, text_of, mutf8_at};
-ghost use Rattle.cc_meaning_file.specs.Texts.{SpellsText, text_item_at, text_at};
+ghost use Rattle.cc_meaning_dex.specs.Mutf8.{SpellsMutf8, text_of, mutf8_at};
+ghost use Rattle.cc_meaning_dex.specs.Texts.{SpellsText, text_item_at, text_at};
 ghost use Rattle.cc_text.specs.Measured.{measured};
 
 use crate::forms::front;
 use crate::leb128::uleb;
 use cc_meaning::fault::{LebFault, TextFault};
-use cc_meaning_file::{mutf8_agrees, mutf8_answers, text_agrees, text_steps};
+use cc_meaning_dex::{mutf8_agrees, mutf8_answers, text_agrees, text_steps};
 use std::alloc::{AllocError, Global};
 
 /// The text of that many units in MUTF-8 at `at`, and the place after its zero byte. Memory is taken once, and only where there is such a text.

@@ -4,6 +4,3 @@
 mod thread;
 
 pub use thread::{PushEnd, Thread};
-
-#[cfg(test)]
-mod tests;

@@ -7,9 +7,9 @@ ghost use Rattle.cc_transfer.specs.Landmarks.{AreLandmarks};
 
 use crate::landmarks::Landmarks;
 use cc_list::List;
-use cc_lookup::{add_ascii, class_named, field_named};
 use cc_meaning::lists::ClassIx;
 use cc_meaning::program::Program;
+use cc_program_names::{add_ascii, class_named, field_named};
 use cc_types::object_class;
 use std::alloc::{AllocError, Global};
 

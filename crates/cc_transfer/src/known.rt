@@ -6,10 +6,10 @@ ghost use Rattle.cc_meaning_typing.specs.WellTyped.{KnowsInstance, KnowsMember, 
 ghost use Rattle.cc_transfer.specs.Bodies.{body_of};
 
 use crate::body::MethodBody;
-use cc_lookup::is_ascii;
 use cc_meaning::instruction::{How, Insn, MethodRef, TypeRef};
 use cc_meaning::lists::ClassIx;
 use cc_meaning::program::{Base, Class, ClassKind, Method, Program};
+use cc_program_names::is_ascii;
 
 #[tactic(auto, unfolding(cc_meaning_typing::specs::WellTyped::is_of_file))]
 fn is_of_file(class: &Class) -> bool

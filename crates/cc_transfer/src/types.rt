@@ -7,10 +7,10 @@ ghost use Rattle.cc_meaning_typing.specs.Code.{is_array, element_of, brackets, b
 ghost use Rattle.cc_meaning_typing.specs.WellFormed.{IsWellFormed};
 ghost use Rattle.cc_meaning_typing.specs.Rules.{NamesReference, NamesArray};
 
-use cc_lookup::class_named;
 use cc_meaning::instruction::TypeRef;
 use cc_meaning::lists::ClassIx;
 use cc_meaning::program::{Base, ClassKind, DexType, Program};
+use cc_program_names::class_named;
 
 /// `[`, with which the name of an array begins.
 const BRACKET: u16 = 91;

@@ -1,8 +1,8 @@
-//! The types above a type.
+//! The classes above a class, and the types above a type.
 
 ghost use Rattle.std.specs.Prelude.{◌≡◌, ◌+◌, ◌≤◌, ◌⊎◌, ◌↔◌, IsTrue, Some, None};
-ghost use Rattle.cc_meaning_typing.specs.Hierarchy.{IsHierarchy, superclass_of, object_class};
-ghost use Rattle.cc_meaning_typing.specs.Types.{is_loose, is_same_base, is_same_type, IsBelow, class_above, next_above, least_above};
+ghost use Rattle.cc_meaning_typing.specs.Hierarchy.{IsHierarchy, superclass_of, object_class, has_ancestor};
+ghost use Rattle.cc_meaning_typing.specs.Types.{is_loose, fits_class, is_same_base, is_same_type, IsBelow, class_above, next_above, least_above};
 ghost use Rattle.cc_meaning_typing.specs.Heights.{rank};
 
 use cc_meaning::lists::ClassIx;
@@ -20,7 +20,7 @@ fn superclass(program: &Program, class: ClassIx) -> Option<ClassIx>
     }
 }
 
-/// Whether the class is outside or an interface of the file, which every reference fits.
+/// Whether every reference fits the class: it is an interface of the file, or outside and no exception. Takes no memory.
 #[tactic(auto, unfolding(cc_meaning_typing::specs::Types::is_loose, cc_meaning_typing::specs::Types::is_loose_in, cc_meaning_typing::specs::Types::is_loose_kind))]
 pub fn is_loose(class: ClassIx, program: &Program) -> bool
     ensures { result ≡ is_loose program.now class }
@@ -31,10 +31,36 @@ pub fn is_loose(class: ClassIx, program: &Program) -> bool
             ClassKind::File => class.is_interface,
             ClassKind::BuiltIn => false,
             ClassKind::Outside => true,
-            ClassKind::OutsideError => true,
+            ClassKind::OutsideError => false,
             ClassKind::Array => false,
         },
     }
+}
+
+/// Whether a class is another or has it among its superclasses.
+#[tactic(auto, using(crate::proofs::Ancestors::above, crate::proofs::Ancestors::same, crate::proofs::Ancestors::none_above, crate::proofs::Ancestors::at_end), unfolding(cc_meaning_typing::specs::Hierarchy::has_ancestor))]
+fn has_ancestor(program: &Program, class: ClassIx, ancestor: ClassIx) -> bool
+    ensures { result ≡ has_ancestor program.now class ancestor }
+{
+    let mut at = class;
+    for _ in 0..program.classes.len() {
+        if at == ancestor {
+            return true;
+        }
+        match superclass(program, at) {
+            Some(above) => at = above,
+            None => return false,
+        }
+    }
+    at == ancestor
+}
+
+/// Whether an object of a class fits a declared class: that is loose, or the object's class is it or below it. Takes no memory.
+#[tactic(auto, unfolding(cc_meaning_typing::specs::Types::fits_class))]
+pub fn fits_class(object: ClassIx, declared: ClassIx, program: &Program) -> bool
+    ensures { result ≡ fits_class program.now object declared }
+{
+    is_loose(declared, program) || has_ancestor(program, object, declared)
 }
 
 /// Object's number: the end of the way up from any class.

@@ -6,7 +6,7 @@ mod registers;
 mod states;
 mod verified;
 
-pub use hierarchy::{least_above, object_class, same_type};
+pub use hierarchy::{fits_class, is_loose, least_above, object_class, same_type};
 pub use registers::{covers, fits, held, join, register_of};
 pub use states::{join_into, register, write, write_long};
 pub use verified::Verified;

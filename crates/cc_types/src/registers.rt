@@ -63,8 +63,8 @@ pub fn covers(wide: RegType, narrow: RegType, program: &Program) -> bool
     same_register(join(wide, narrow, program), wide)
 }
 
-/// The type that a register holds for a declared one: Object for an outside class and an interface of the file, which every reference fits, and so in arrays;
-/// any other type itself. Takes no memory.
+/// The type that a register holds for a declared one: Object for a loose class, which every reference fits, and so in arrays; any other type itself. Takes no
+/// memory.
 #[tactic(auto, unfolding(cc_meaning_typing::specs::Types::held, cc_meaning_typing::specs::Types::held_base))]
 pub fn held(declared: DexType, program: &Program) -> DexType
     requires { IsHierarchy program.now }

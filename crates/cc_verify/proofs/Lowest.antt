@@ -6,7 +6,7 @@ use Rattle.cc_meaning.specs.declared.program.Code.{Code}
 use Rattle.cc_meaning.specs.declared.program.Try.{Try}
 use Rattle.cc_meaning_typing.specs.Code.{Body}
 use Rattle.cc_meaning_typing.specs.WellTyped.{TargetsStand}
-use Rattle.cc_meaning_verify.specs.Faults.{IsBadTarget, branch, handler, IsUnknownMember, unknown, MembersAreKnown, IsLeast}
+use Rattle.cc_meaning_typing.specs.Faults.{IsBadTarget, branch, handler, IsUnknownMember, unknown, MembersAreKnown, IsLeast}
 use Rattle.cc_verify.specs.Lowest.{Lowers, IsAmong, place_of, BranchStands, IsBadBranch, BranchesStand, handler_of, CatchStands, IsBadCatch, AreTargets, IsBadTry, CatchesStand, MemberIsKnown}
 
 -- the lowest of two kinds, one after the other

@@ -7,9 +7,9 @@ use Rattle.cc_meaning.specs.declared.program.Code.{Code}
 use Rattle.cc_meaning.specs.declared.program.Placed.{Placed}
 use Rattle.cc_meaning_typing.specs.Code.{placed_at, insn_of, insn_at, successors, handlers}
 use Rattle.cc_meaning_typing.specs.WellTyped.{IsInsn, IsTarget, Reaches, first, on, caught}
-use Rattle.cc_meaning_verify.specs.Faults.{FallsOff, StaysWithin}
-use Rattle.cc_meaning_verify.specs.Laws.{StandInOrder}
-use Rattle.cc_meaning_verify.specs.Tries.{units_of}
+use Rattle.cc_meaning_typing.specs.Faults.{FallsOff, StaysWithin}
+use Rattle.cc_meaning_typing.specs.VerifyLaws.{StandInOrder}
+use Rattle.cc_meaning_typing.specs.Tries.{units_of}
 use Rattle.cc_verify.specs.declared.reach.Frontier.{Frontier}
 use Rattle.cc_verify.specs.Reaching.{seen_at, IsSeen, CanCome, unseen_of, unseen_in, room, Widens, AreReached, Looked, IsExplored}
 use Rattle.cc_verify.proofs.Tables.{test_eq}

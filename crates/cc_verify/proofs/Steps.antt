@@ -11,9 +11,9 @@ use Rattle.cc_meaning_typing.specs.declared.state.Pending.TheVariants.{Exception
 use Rattle.cc_meaning_typing.specs.declared.state.State.{State}
 use Rattle.cc_meaning_typing.specs.Code.{Body}
 use Rattle.cc_meaning_typing.specs.Rules.{caught_type, handler_state}
-use Rattle.cc_meaning_verify.specs.Ending.{AreNarrowStates, known_room, due_room, room_below, tries_room, width_of}
-use Rattle.cc_meaning_verify.specs.Laws.{Spreads, TriesShrink}
-use Rattle.cc_meaning_verify.specs.Tries.{units_of, States, state_at, lead, lead_all, catch_all, Due, opening_states, opening_due, IsLeastDue, Marks, DueAfter, Passes, Tries, tried, After, opens, passes, EndsWith, BreaksAt}
+use Rattle.cc_meaning_typing.specs.Ending.{AreNarrowStates, known_room, due_room, room_below, tries_room, width_of}
+use Rattle.cc_meaning_typing.specs.VerifyLaws.{Spreads, TriesShrink}
+use Rattle.cc_meaning_typing.specs.Tries.{units_of, States, state_at, lead, lead_all, catch_all, Due, opening_states, opening_due, IsLeastDue, Marks, DueAfter, Passes, Tries, tried, After, opens, passes, EndsWith, BreaksAt}
 use Rattle.cc_verify.specs.declared.table.Table.{Table}
 use Rattle.cc_verify.specs.Tables.{due_of, Tried}
 use Rattle.cc_verify.proofs.Tables.{test_eq, updated_same, updated_other}

@@ -10,7 +10,7 @@ use Rattle.std.proofs.lemmas.List.Elements.{All-head, All-tail}
 use Rattle.cc_meaning.specs.declared.program.RegType.{RegType}
 use Rattle.cc_meaning_typing.specs.declared.state.State.{State}
 use Rattle.cc_meaning_typing.specs.Growth.{IsNarrowRegister, AreNarrow}
-use Rattle.cc_meaning_verify.specs.Tries.{States, state_at, Due, Marks, unchanged, changed, opening_due}
+use Rattle.cc_meaning_typing.specs.Tries.{States, state_at, Due, Marks, unchanged, changed, opening_due}
 
 pub all_narrow : (registers : List RegType) → All IsNarrowRegister registers → AreNarrow registers
 all_narrow [] h = tt

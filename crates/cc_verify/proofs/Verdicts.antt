@@ -9,8 +9,8 @@ use Rattle.cc_meaning.specs.declared.program.Program.{Program}
 use Rattle.cc_meaning_typing.specs.Code.{Body}
 use Rattle.cc_meaning_typing.specs.Hierarchy.{IsHierarchy}
 use Rattle.cc_meaning_typing.specs.WellTyped.{WellTyped}
-use Rattle.cc_meaning_verify.specs.Faults.{IsBodyOf, IsFirstFault, FitsWidth}
-use Rattle.cc_meaning_verify.specs.Laws.{SoundHasNoFault}
+use Rattle.cc_meaning_typing.specs.Faults.{IsBodyOf, IsFirstFault, FitsWidth}
+use Rattle.cc_meaning_typing.specs.VerifyLaws.{SoundHasNoFault}
 use Rattle.cc_verify.specs.Verdicts.{HasNoFault, IsClear, AreClear, HasFault}
 use Rattle.cc_verify.proofs.Tables.{test_eq}
 

@@ -5,8 +5,8 @@ use Rattle.cc_meaning.specs.declared.program.Code.{Code}
 use Rattle.cc_meaning.specs.declared.program.Placed.{Placed}
 use Rattle.cc_meaning_typing.specs.Code.{placed_at, successors, handlers}
 use Rattle.cc_meaning_typing.specs.WellTyped.{IsTarget, Reaches}
-use Rattle.cc_meaning_verify.specs.Faults.{FallsOff}
-use Rattle.cc_meaning_verify.specs.Tries.{units_of}
+use Rattle.cc_meaning_typing.specs.Faults.{FallsOff}
+use Rattle.cc_meaning_typing.specs.Tries.{units_of}
 use Rattle.cc_verify.specs.declared.reach.Frontier.{Frontier}
 
 -- whether control has come to an address

@@ -4,8 +4,8 @@ use Rattle.std.specs.Ordering.{nat_cmp}
 use Rattle.std.specs.BTreeSet.{BTreeSet, contains}
 use Rattle.cc_meaning_typing.specs.declared.state.State.{State}
 use Rattle.cc_meaning_typing.specs.Code.{Body}
-use Rattle.cc_meaning_verify.specs.Laws.{Spreads}
-use Rattle.cc_meaning_verify.specs.Tries.{Due, Passes, state_at, tried}
+use Rattle.cc_meaning_typing.specs.VerifyLaws.{Spreads}
+use Rattle.cc_meaning_typing.specs.Tries.{Due, Passes, state_at, tried}
 use Rattle.cc_verify.specs.declared.table.Table.{Table}
 
 -- the addresses of a set are due

@@ -4,7 +4,7 @@ use Rattle.cc_meaning.specs.declared.fault.VerifyFault.{VerifyFault}
 use Rattle.cc_meaning.specs.declared.program.Program.{Program}
 use Rattle.cc_meaning_typing.specs.Code.{Body}
 use Rattle.cc_meaning_typing.specs.WellTyped.{IsSound}
-use Rattle.cc_meaning_verify.specs.Faults.{IsTooWide, IsFaultOf, IsBodyOf}
+use Rattle.cc_meaning_typing.specs.Faults.{IsTooWide, IsFaultOf, IsBodyOf}
 
 -- a method is well typed, and not too wide
 pub record HasNoFault (body : Body) : Type 0 where

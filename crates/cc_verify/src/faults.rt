@@ -5,7 +5,7 @@ ghost use Rattle.cc_meaning.specs.declared.program.Catch.{Catch};
 ghost use Rattle.cc_meaning.specs.declared.program.Try.{Try};
 ghost use Rattle.cc_meaning_typing.specs.WellFormed.{IsLaidOut};
 ghost use Rattle.cc_meaning_typing.specs.WellTyped.{IsTarget, TargetsStand};
-ghost use Rattle.cc_meaning_verify.specs.Faults.{IsBadTarget, IsLeast, IsTooWide, IsUnknownMember, MembersAreKnown};
+ghost use Rattle.cc_meaning_typing.specs.Faults.{IsBadTarget, IsLeast, IsTooWide, IsUnknownMember, MembersAreKnown};
 ghost use Rattle.cc_transfer.specs.Bodies.{body_of};
 ghost use Rattle.cc_verify.specs.Lowest.{AreTargets, BranchesStand, CatchesStand, IsBadBranch, IsBadCatch, IsBadTry, Lowers};
 

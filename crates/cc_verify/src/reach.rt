@@ -5,14 +5,14 @@ ghost use Rattle.std.specs.Bool.{MatchBool};
 ghost use Rattle.cc_meaning.specs.declared.program.Catch.{Catch};
 ghost use Rattle.cc_meaning_typing.specs.WellFormed.{IsLaidOut};
 ghost use Rattle.cc_meaning_typing.specs.WellTyped.{IsTarget, Reaches};
-ghost use Rattle.cc_meaning_verify.specs.Faults.{FallsOff, StaysWithin};
-ghost use Rattle.cc_meaning_verify.specs.Tries.{units_of};
+ghost use Rattle.cc_meaning_typing.specs.Faults.{FallsOff, StaysWithin};
+ghost use Rattle.cc_meaning_typing.specs.Tries.{units_of};
 ghost use Rattle.cc_verify.specs.Reaching.{AreReached, IsExplored, IsSeen, Looked, Widens, CanCome, seen_at};
 
 use crate::table::units;
 use cc_list::List;
 use cc_meaning::program::{Catch, Code};
-use cc_meaning_verify::law_laid_out;
+use cc_meaning_typing::law_laid_out;
 use cc_transfer::{SuccessorAddresses, handlers, is_target, placed_at, successors};
 use std::alloc::{AllocError, Global};
 

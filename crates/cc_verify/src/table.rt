@@ -6,16 +6,15 @@ ghost use Rattle.cc_meaning_typing.specs.Growth.{AreNarrow, IsNarrow, IsNarrowPe
 ghost use Rattle.cc_meaning_typing.specs.States.{join_states};
 ghost use Rattle.cc_meaning_typing.specs.WellFormed.{IsLaidOut};
 ghost use Rattle.cc_meaning_typing.specs.declared.state.State.{State};
-ghost use Rattle.cc_meaning_verify.specs.Ending.{AreNarrowStates, width_of};
-ghost use Rattle.cc_meaning_verify.specs.Laws.{AreWide, Spreads};
-ghost use Rattle.cc_meaning_verify.specs.Tries.{joined, lead, opening_due, opening_states, state_at, units_of};
+ghost use Rattle.cc_meaning_typing.specs.Ending.{AreNarrowStates, width_of};
+ghost use Rattle.cc_meaning_typing.specs.VerifyLaws.{AreWide, Spreads};
+ghost use Rattle.cc_meaning_typing.specs.Tries.{joined, lead, opening_due, opening_states, state_at, units_of};
 ghost use Rattle.cc_transfer.specs.Bodies.{body_of};
 ghost use Rattle.cc_verify.specs.Tables.{due_of};
 
 use cc_list::List;
 use cc_meaning::program::{Code, RegType};
-use cc_meaning_typing::{Pending, State};
-use cc_meaning_verify::{law_laid_out, law_leads_spread};
+use cc_meaning_typing::{Pending, State, law_laid_out, law_leads_spread};
 use cc_transfer::{MethodBody, join_state, opening};
 use std::alloc::{AllocError, Global};
 use std::collections::BTreeSet;
@@ -89,7 +88,7 @@ fn rise(
 }
 
 /// Joins a state into what is known at an address, and says whether that has changed.
-#[tactic(auto, unfolding(cc_meaning_verify::specs::Tries::joined))]
+#[tactic(auto, unfolding(cc_meaning_typing::specs::Tries::joined))]
 fn enter(
     body: &MethodBody<'_>,
     known: &mut Option<State>,
@@ -124,7 +123,7 @@ fn begun(registers: &List<RegType>, pending: Pending) -> Result<State, AllocErro
 }
 
 /// Control comes to an address with a state. An address before the first, or past the last, is none of the method.
-#[tactic(auto, unfolding(cc_meaning_verify::specs::Tries::lead))]
+#[tactic(auto, unfolding(cc_meaning_typing::specs::Tries::lead))]
 pub fn lead(
     body: &MethodBody<'_>,
     table: &mut Table,

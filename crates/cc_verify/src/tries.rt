@@ -2,16 +2,17 @@
 
 ghost use Rattle.std.specs.Prelude.{◌≡◌, ◌<◌, ◌^◌, ℕ, IfOk, IfSome, IsSome, MatchOption, OnOk, length};
 ghost use Rattle.cc_meaning_typing.specs.WellFormed.{IsLaidOut};
-ghost use Rattle.cc_meaning_verify.specs.Ending.{AreNarrowStates, width_of};
-ghost use Rattle.cc_meaning_verify.specs.Laws.{AreWide, IsClosed, Spreads};
-ghost use Rattle.cc_meaning_verify.specs.Tries.{BreaksAt, EndsWith, States, catch_all, lead_all, state_at, units_of};
+ghost use Rattle.cc_meaning_typing.specs.Ending.{AreNarrowStates, width_of};
+ghost use Rattle.cc_meaning_typing.specs.VerifyLaws.{AreWide, IsClosed, Spreads};
+ghost use Rattle.cc_meaning_typing.specs.Tries.{BreaksAt, EndsWith, States, catch_all, lead_all, state_at, units_of};
 ghost use Rattle.cc_transfer.specs.Bodies.{body_of};
 ghost use Rattle.cc_verify.specs.Tables.{Tried, due_of};
 
 use crate::table::{Table, known_at, lead, opened};
 use cc_meaning::program::{Catch, Placed};
-use cc_meaning_typing::State;
-use cc_meaning_verify::{law_find_typings, law_laid_out, law_leads_spread, law_shrink_tries};
+use cc_meaning_typing::{
+    State, law_find_typings, law_laid_out, law_leads_spread, law_shrink_tries,
+};
 use cc_transfer::{
     MethodBody, SuccessorAddresses, accepts, apply, handler_pending, handlers, placed_at,
     successors, take_references,

@@ -2,9 +2,10 @@
 
 ghost use Rattle.std.specs.Prelude.{◌≡◌, ◌≤◌, ◌<◌, ◌^◌, ◌⊎◌, IfOk, IfErr, MatchOption, length, Some, slice_get};
 ghost use Rattle.cc_meaning.specs.declared.fault.VerifyFault.TheVariants as faults;
+ghost use Rattle.cc_meaning_typing.specs.Complete.{IsComplete};
 ghost use Rattle.cc_meaning_typing.specs.WellFormed.{IsWellFormed};
 ghost use Rattle.cc_meaning_typing.specs.WellTyped.{IsSound, WellTyped};
-ghost use Rattle.cc_meaning_verify.specs.Faults.{FitsWidth, IsFaultOf, IsFirstFault, IsTooWide};
+ghost use Rattle.cc_meaning_typing.specs.Faults.{FitsWidth, IsFaultOf, IsFirstFault, IsTooWide};
 ghost use Rattle.cc_transfer.specs.Bodies.{body_of};
 ghost use Rattle.cc_transfer.specs.Landmarks.{AreLandmarks};
 ghost use Rattle.cc_verify.specs.Verdicts.{AreClear, HasFault, HasNoFault, IsClear};
@@ -15,7 +16,7 @@ use crate::tries::first_broken;
 use cc_meaning::fault::VerifyFault;
 use cc_meaning::lists::MethodIx;
 use cc_meaning::program::{Method, MethodKind, Program};
-use cc_meaning_verify::{law_find_typings, law_laid_out, law_one_fault, law_one_first_fault};
+use cc_meaning_typing::{law_find_typings, law_laid_out, law_one_fault, law_one_first_fault};
 use cc_transfer::{Landmarks, MethodBody, find_landmarks};
 use cc_types::Verified;
 use std::alloc::{AllocError, Global};
@@ -97,13 +98,12 @@ fn first_fault(alloc: Global, program: &Program) -> Result<Option<VerifyFault>, 
     Ok(None)
 }
 
-/// Verifies a program: it is well typed, and no method has more than 4,194,304 units times registers. A program that is refused comes back unchanged,
-/// with the fault of its first method that has one, of which `VerifyFault` lists the kinds; which comes first in a method is told by `IsFaultOf`.
+/// Verifies a program, as a reader makes one: it is well typed, and no method has more than 4,194,304 units times registers. A program that is refused
+/// comes back unchanged, with the fault of its first method that has one, of which `VerifyFault` lists the kinds; which comes first in a method is told by `IsFaultOf`.
 /// `Memory` says that there is no memory, and nothing else.
 /// Source: Dalvik bytecode, and Dalvik executable constraints.
 pub fn verify(alloc: Global, program: Program) -> Result<Verified, (Program, VerifyFault)>
-    requires well_formed { IsWellFormed program }
-    requires fits { length program.methods ≤ 2 ^ 32 }
+    requires complete { IsComplete program }
     // What is accepted is the program, well typed and not too wide.
     ensures same { IfOk result (λ verified. verified ≡ program) }
     ensures well_typed { IfOk result (λ verified. WellTyped program) }

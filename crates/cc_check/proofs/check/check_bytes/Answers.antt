@@ -1,7 +1,7 @@
 use Rattle.std.proofs.Common.{Ok, sym, ap, ◌∙◌, subst}
 use Rattle.std.specs.Option.{option_copied}
 use Rattle.std.proofs.lemmas.Result.{err_from_is_err_and}
-use Rattle.cc_program.specs.Asked.{asked_class}
+use Rattle.cc_meaning_program.specs.Asked.{asked_class}
 use Rattle.cc_check.specs.Checking.{IsChecked}
 use Rattle.cc_check.specs.Summaries.{summary_of}
 use Rattle.cc_check.specs.declared.summary.Summary.{Summary}

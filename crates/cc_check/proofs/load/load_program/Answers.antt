@@ -2,9 +2,9 @@ use Rattle.std.proofs.Common.{sym, subst}
 use Rattle.std.specs.Option.{option_copied}
 use Rattle.std.proofs.lemmas.Result.{err_from_is_err_and}
 use Rattle.cc_meaning.specs.declared.program.Program.{Program}
-use Rattle.cc_meaning_typing.specs.WellFormed.{IsWellFormed}
-use Rattle.cc_program.specs.Asked.{asked_class}
-use Rattle.cc_program.specs.Reading.{SpellsProgram}
+use Rattle.cc_meaning_typing.specs.Complete.{IsComplete}
+use Rattle.cc_meaning_program.specs.Asked.{asked_class}
+use Rattle.cc_meaning_program.specs.Reading.{SpellsProgram}
 use Rattle.cc_check.specs.Checking.{IsRefused}
 use Rattle.cc_check.proofs.Refusing.{unread_refused, first_of_same}
 use Rattle.cc_check.proofs.load.load_program.Goals as goal
@@ -23,5 +23,5 @@ returns-in-Err-clause-refused c = λ real.
     (subst (λ (p : Program). SpellsProgram c.args.file.now (asked_class (option_copied c.args.main)) p) (sym c.in-Err.ensures.unchanged) c.in_ok-program.ensures.spelled)
     (c.named.ensures real)
 
-pub returns-in-Ok-clause-well_formed : goal.returns-in-Ok-clause-well_formed
-returns-in-Ok-clause-well_formed c = subst IsWellFormed (sym c.in-Ok.ensures.same) c.in_ok-program.ensures.well_formed
+pub returns-in-Ok-clause-complete : goal.returns-in-Ok-clause-complete
+returns-in-Ok-clause-complete c = subst IsComplete (sym c.in-Ok.ensures.same) c.in_ok-program.ensures.complete

@@ -1,6 +1,6 @@
 use Rattle.std.proofs.Common.{refl}
 use Rattle.cc_outside.specs.Shelves as shelf
-use Rattle.cc_plan.specs.declared.plan.Plan.{Plan}
+use Rattle.cc_output.specs.declared.plan.Plan.{Plan}
 use Rattle.cc_meaning_plain.specs.Tables.{longest_file}
 use Rattle.cc_cli.specs.Offloading.{tells_of, all_names, FilePlan}
 use Rattle.cc_cli.proofs.Offloading.{then_read, on_known}

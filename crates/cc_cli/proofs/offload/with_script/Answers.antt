@@ -1,5 +1,5 @@
 use Rattle.cc_outside.specs.Shelves as shelf
-use Rattle.cc_plan.specs.declared.plan.Plan.{Plan}
+use Rattle.cc_output.specs.declared.plan.Plan.{Plan}
 use Rattle.cc_cli.specs.Offloading.{tells_of, all_names, longest_text, ScriptPlan}
 use Rattle.cc_cli.proofs.Offloading.{then_read, on_known}
 use Rattle.cc_cli.proofs.offload.with_script.Goals as goal

@@ -1,7 +1,7 @@
 use Rattle.std.proofs.Common.{List, Option, ap}
 use Rattle.std.specs.Prelude.{slice_get}
 use Rattle.cc_meaning.specs.declared.program.DexType.{DexType}
-use Rattle.cc_meaning_linking.specs.declared.links.MethodLink.{MethodLink}
+use Rattle.cc_meaning_program.specs.declared.links.MethodLink.{MethodLink}
 use Rattle.cc_code_tests.proofs.linking.links.Goals as goal
 
 pub returns-clause-types : goal.returns-clause-types

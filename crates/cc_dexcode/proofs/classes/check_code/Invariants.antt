@@ -1,5 +1,5 @@
 use Rattle.std.proofs.Common.{◌≡◌, drop}
-use Rattle.cc_meaning_classes.specs.Classes.{code_fault}
+use Rattle.cc_meaning_dex.specs.Classes.{code_fault}
 use Rattle.cc_dexcode.proofs.classes.check_code.Given as goal
 
 abbrev pub invariant-loop-method : goal.invariant-loop-method

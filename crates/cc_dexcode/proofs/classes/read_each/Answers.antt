@@ -1,6 +1,6 @@
 use Rattle.std.proofs.Common.{◌∙◌, sym, ap}
 use Rattle.std.proofs.lemmas.Result.{err_from_is_err_and}
-use Rattle.cc_meaning_classes.specs.Classes.{class_of, classes_from}
+use Rattle.cc_meaning_dex.specs.Classes.{class_of, classes_from}
 use Rattle.cc_dexcode.proofs.Parts.{without_front, classes_more, classes_fail, classes_done}
 use Rattle.cc_dexcode.proofs.classes.read_each.Goals as goal
 

@@ -1,5 +1,5 @@
 use Rattle.std.proofs.Common.{◌≡◌, drop}
-use Rattle.cc_meaning_classes.specs.Classes.{classes_from}
+use Rattle.cc_meaning_dex.specs.Classes.{classes_from}
 use Rattle.cc_dexcode.proofs.Parts.{with_front}
 use Rattle.cc_dexcode.proofs.classes.read_each.Given as goal
 

@@ -1,7 +1,7 @@
 use Rattle.std.proofs.Common.{false, get_or}
 use Rattle.std.proofs.lemmas.Result.{err_from_is_err_and}
-use Rattle.cc_meaning_classes.specs.Tries.{method_of}
-use Rattle.cc_meaning_classes.specs.Classes.{methods_with_code}
+use Rattle.cc_meaning_dex.specs.Tries.{method_of}
+use Rattle.cc_meaning_dex.specs.Classes.{methods_with_code}
 use Rattle.cc_dexcode.proofs.Parts.{without_front, head_within, methods_more, methods_fail, methods_done}
 use Rattle.cc_dexcode.proofs.classes.read_methods.Goals as goal
 

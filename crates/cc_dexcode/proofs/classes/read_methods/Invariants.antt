@@ -1,5 +1,5 @@
 use Rattle.std.proofs.Common.{◌≡◌, drop}
-use Rattle.cc_meaning_classes.specs.Classes.{methods_with_code}
+use Rattle.cc_meaning_dex.specs.Classes.{methods_with_code}
 use Rattle.cc_dexcode.proofs.Parts.{with_front}
 use Rattle.cc_dexcode.proofs.classes.read_methods.Given as goal
 

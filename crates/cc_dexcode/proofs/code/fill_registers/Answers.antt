@@ -1,4 +1,4 @@
-use Rattle.cc_meaning_classes.specs.CodeItems.{type_width}
+use Rattle.cc_meaning_dex.specs.CodeItems.{type_width}
 use Rattle.cc_dexcode.proofs.Registers.{too_many, one_more, all_taken}
 use Rattle.cc_dexcode.proofs.code.fill_registers.Goals as goal
 

@@ -1,6 +1,6 @@
 use Rattle.std.proofs.Common.{◌≡◌, to_z, of_z, w64, ap, ◌∙◌, arith}
 use Rattle.std.proofs.lemmas.Int.{ints}
-use Rattle.cc_meaning_classes.specs.Values.{sign_extended}
+use Rattle.cc_meaning_dex.specs.Values.{sign_extended}
 use Rattle.cc_dexcode.proofs.Bytes.{little_read}
 use Rattle.cc_dexcode.proofs.little.signed_at.Goals as goal
 

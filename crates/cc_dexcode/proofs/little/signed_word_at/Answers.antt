@@ -1,7 +1,7 @@
 use Rattle.std.proofs.Common.{◌≡◌, to_z, of_z, w32, w64, sym, subst, ◌∙◌, arith, ℤ}
 use Rattle.std.proofs.lemmas.Int.{ints}
-use Rattle.cc_meaning_file.specs.Leb128.{FitsI32}
-use Rattle.cc_meaning_classes.specs.Values.{little_at}
+use Rattle.cc_meaning_dex.specs.Leb128.{FitsI32}
+use Rattle.cc_meaning_dex.specs.Values.{little_at}
 use Rattle.cc_dexcode.proofs.Bytes.{little_below, word_range}
 use Rattle.cc_dexcode.proofs.little.signed_word_at.Goals as goal
 

@@ -1,6 +1,6 @@
 use Rattle.std.proofs.Common.{rules}
 use Rattle.std.proofs.lemmas.Fn.{always_returns_same}
-use Rattle.cc_meaning_classes.specs.declared.items.Handler.{Handler}
+use Rattle.cc_meaning_dex.specs.declared.items.Handler.{Handler}
 use Rattle.cc_dexcode.proofs.Searches.{found, absent}
 use Rattle.cc_dexcode.proofs.tries.find_catches.Goals as goal
 

@@ -1,5 +1,5 @@
 use Rattle.std.proofs.lemmas.Result.{err_from_is_err_and}
-use Rattle.cc_meaning_classes.specs.Sequences.{items_from}
+use Rattle.cc_meaning_dex.specs.Sequences.{items_from}
 use Rattle.cc_dexcode.proofs.Loop.{begins, goes_on, fails, is_done}
 use Rattle.cc_dexcode.proofs.walk.read_items.Goals as goal
 

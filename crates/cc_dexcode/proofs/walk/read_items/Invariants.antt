@@ -1,5 +1,5 @@
 use Rattle.std.proofs.Common.{◌≡◌, ◌-◌}
-use Rattle.cc_meaning_classes.specs.Sequences.{items_from}
+use Rattle.cc_meaning_dex.specs.Sequences.{items_from}
 use Rattle.cc_dexcode.proofs.Loop.{with_front}
 use Rattle.cc_dexcode.proofs.walk.read_items.Given as goal
 

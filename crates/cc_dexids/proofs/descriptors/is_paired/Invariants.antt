@@ -1,5 +1,5 @@
 use Rattle.std.proofs.Common.{◌≡◌, drop}
-use Rattle.cc_meaning_file.specs.Descriptors.{is_paired, paired_after}
+use Rattle.cc_meaning_dex.specs.Descriptors.{is_paired, paired_after}
 use Rattle.cc_dexids.proofs.descriptors.is_paired.Given as goal
 
 abbrev pub invariant-loop-unit : goal.invariant-loop-unit

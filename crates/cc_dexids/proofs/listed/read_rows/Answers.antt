@@ -1,7 +1,7 @@
 use Rattle.std.proofs.Common.{ℕ, ◌+◌, ◌*◌, [], ◌∷◌, ◌++◌, map, sym, ap, ◌∙◌, arith}
 use Rattle.std.specs.List.{range_with_len}
 use Rattle.std.proofs.lemmas.List.FromFn.{map-range_with_len_more}
-use Rattle.cc_meaning_file.specs.Numbers.{u16_at}
+use Rattle.cc_meaning_dex.specs.Numbers.{u16_at}
 use Rattle.cc_dexids.proofs.listed.read_rows.Goals as goal
 
 pub loop-k-preserved : goal.loop-k-preserved

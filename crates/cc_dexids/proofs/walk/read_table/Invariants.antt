@@ -1,6 +1,6 @@
 use Rattle.std.proofs.Common.{◌≡◌, None}
-use Rattle.cc_meaning_file.specs.Faults.{first_below}
-use Rattle.cc_meaning_file.specs.Ids.{EachSpelled}
+use Rattle.cc_meaning_dex.specs.Faults.{first_below}
+use Rattle.cc_meaning_dex.specs.Ids.{EachSpelled}
 use Rattle.cc_dexids.proofs.walk.read_table.Given as goal
 
 abbrev pub invariant-loop-row : goal.invariant-loop-row

@@ -1,5 +1,5 @@
 use Rattle.std.proofs.Common.{◌≡◌, ◌+◌, ◌%◌, ◌++◌, List, length, ap, ◌∙◌, arith}
-use Rattle.cc_meaning_building.specs.Forms.{handler_form, tries_form, uleb_form}
+use Rattle.cc_meaning_builder.specs.Forms.{handler_form, tries_form, uleb_form}
 use Rattle.cc_meaning.specs.declared.file.RawCatch.{RawCatch}
 use Rattle.cc_items.proofs.Lists.{tries_more, tries_end}
 use Rattle.cc_items.proofs.code.put_tries.Goals as goal

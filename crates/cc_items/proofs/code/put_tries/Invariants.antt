@@ -1,5 +1,5 @@
 use Rattle.std.proofs.Common.{◌≡◌, ℕ, ◌%◌, ◌++◌, drop, length}
-use Rattle.cc_meaning_building.specs.Forms.{tries_form, uleb_form}
+use Rattle.cc_meaning_builder.specs.Forms.{tries_form, uleb_form}
 use Rattle.cc_items.proofs.code.put_tries.Given as goal
 
 abbrev pub invariant-loop-covered : goal.invariant-loop-covered

@@ -1,6 +1,6 @@
 use Rattle.std.proofs.Common.{◌≡◌, ◌++◌, take}
 use Rattle.std.specs.List.{flat_map}
-use Rattle.cc_meaning_building.specs.Forms.{catch_form}
+use Rattle.cc_meaning_builder.specs.Forms.{catch_form}
 use Rattle.cc_items.proofs.handlers.put_catches.Given as goal
 
 abbrev pub invariant-loop-catch : goal.invariant-loop-catch

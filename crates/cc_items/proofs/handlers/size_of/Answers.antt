@@ -1,5 +1,5 @@
 use Rattle.std.proofs.Common.{ℕ, Bool, nat_lt, length, ap, ◌∙◌}
-use Rattle.cc_meaning_building.specs.Forms.{sleb_form, typed_count}
+use Rattle.cc_meaning_builder.specs.Forms.{sleb_form, typed_count}
 use Rattle.cc_items.proofs.Lists.{some_take_all}
 use Rattle.cc_items.proofs.handlers.size_of.Goals as goal
 

@@ -1,5 +1,5 @@
 use Rattle.std.proofs.Common.{◌≡◌, ◌+◌, ◌≤◌, drop}
-use Rattle.cc_meaning_building.specs.Forms.{typed_count}
+use Rattle.cc_meaning_builder.specs.Forms.{typed_count}
 use Rattle.cc_items.proofs.handlers.typed_count.Given as goal
 
 abbrev pub invariant-loop-catch : goal.invariant-loop-catch

@@ -1,5 +1,5 @@
 use Rattle.std.proofs.Common.{ℕ, ◌+◌, ◌++◌, false, List, drop, refl, sym, ap, ◌∙◌, slice_index_or}
-use Rattle.cc_meaning_building.specs.Forms.{fields_form, uleb_form}
+use Rattle.cc_meaning_builder.specs.Forms.{fields_form, uleb_form}
 use Rattle.cc_meaning.specs.declared.file.RawField.{RawField}
 use Rattle.cc_items.specs.Listed.{fields_of}
 use Rattle.cc_items.proofs.Chosen.{chosen_in, chosen_out, chosen_end}

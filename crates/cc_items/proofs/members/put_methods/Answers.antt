@@ -1,6 +1,6 @@
 use Rattle.std.proofs.Common.{ℕ, ◌+◌, ◌++◌, false, List, drop, refl, sym, ap, ◌∙◌, slice_index_or}
-use Rattle.cc_meaning_building.specs.Forms.{methods_form, uleb_form}
-use Rattle.cc_meaning_classes.specs.declared.items.StatedMethod.{StatedMethod}
+use Rattle.cc_meaning_builder.specs.Forms.{methods_form, uleb_form}
+use Rattle.cc_meaning_dex.specs.declared.items.StatedMethod.{StatedMethod}
 use Rattle.cc_items.specs.Listed.{methods_of}
 use Rattle.cc_items.proofs.Chosen.{chosen_in, chosen_out, chosen_end}
 use Rattle.cc_items.proofs.Lists.{methods_more, methods_end}

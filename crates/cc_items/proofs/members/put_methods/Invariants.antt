@@ -1,5 +1,5 @@
 use Rattle.std.proofs.Common.{◌≡◌, ◌++◌, drop}
-use Rattle.cc_meaning_building.specs.Forms.{methods_form}
+use Rattle.cc_meaning_builder.specs.Forms.{methods_form}
 use Rattle.cc_items.specs.Listed.{methods_of}
 use Rattle.cc_items.proofs.members.put_methods.Given as goal
 

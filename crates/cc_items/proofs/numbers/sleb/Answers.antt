@@ -1,5 +1,5 @@
 use Rattle.std.proofs.Common.{◌∙◌, sym, arith}
-use Rattle.cc_meaning_building.specs.Forms.{sleb_form}
+use Rattle.cc_meaning_builder.specs.Forms.{sleb_form}
 use Rattle.cc_items.proofs.Groups.{bound_large, bound_next, sleb_last, sleb_more, sleb_end}
 use Rattle.cc_items.proofs.numbers.sleb.Goals as goal
 

@@ -1,5 +1,5 @@
 use Rattle.std.proofs.Common.{◌≡◌, ◌-◌, ◌^◌, ◌++◌, length}
-use Rattle.cc_meaning_building.specs.Forms.{sleb_form, sleb_within}
+use Rattle.cc_meaning_builder.specs.Forms.{sleb_form, sleb_within}
 use Rattle.cc_items.proofs.numbers.sleb.Given as goal
 
 -- the groups so far, and what is left in at most so many groups and one more, are the whole

@@ -1,5 +1,5 @@
 use Rattle.std.proofs.Common.{◌++◌, refl, arith, slice_index_or}
-use Rattle.cc_meaning_file.specs.Mutf8.{mutf8_bytes}
+use Rattle.cc_meaning_dex.specs.Mutf8.{mutf8_bytes}
 use Rattle.cc_items.proofs.Lists.{forms_more, forms_end}
 use Rattle.cc_items.proofs.texts.put_forms.Goals as goal
 

@@ -1,5 +1,5 @@
 use Rattle.std.proofs.Common.{◌≡◌, ◌++◌, drop}
-use Rattle.cc_meaning_file.specs.Mutf8.{mutf8_bytes}
+use Rattle.cc_meaning_dex.specs.Mutf8.{mutf8_bytes}
 use Rattle.cc_items.proofs.texts.put_forms.Given as goal
 
 abbrev pub invariant-loop-unit : goal.invariant-loop-unit

@@ -4,7 +4,7 @@ use Rattle.std.specs.Int.{w8, w32}
 use mir.Val.{SFits, to_z, of_z}
 use Rattle.std.proofs.lemmas.Int.{to_z-of_z}
 use Rattle.std.proofs.lemmas.Result.{on_ok_weaker}
-use Rattle.cc_meaning_building.specs.Forms.{signed_form}
+use Rattle.cc_meaning_builder.specs.Forms.{signed_form}
 use Rattle.cc_items.proofs.Widths.{one_byte}
 use Rattle.cc_items.proofs.Shapes.{byte_is, no_byte}
 use Rattle.cc_items.proofs.values.put_byte.Goals as goal

@@ -4,7 +4,7 @@ use Rattle.std.specs.Int.{w32, FitsUnsignedBits}
 use mir.Val.{to_z, of_z}
 use Rattle.std.proofs.lemmas.Int.{to_z-of_z}
 use Rattle.std.proofs.lemmas.Result.{on_ok_weaker}
-use Rattle.cc_meaning_building.specs.Forms.{little_form, signed_form}
+use Rattle.cc_meaning_builder.specs.Forms.{little_form, signed_form}
 use Rattle.std.specs.Prelude.{unsigned_abs}
 use Rattle.cc_items.proofs.Widths.{unit_bytes}
 use Rattle.cc_items.proofs.Shapes.{char_is, no_char}

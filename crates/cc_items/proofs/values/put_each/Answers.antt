@@ -1,8 +1,8 @@
 use Rattle.std.proofs.Common.{◌++◌, Option, refl, ap, ◌∙◌, slice_index_or}
 use Rattle.std.specs.Prelude.{pos}
 use Rattle.cc_meaning.specs.declared.program.StaticValue.TheVariants as static
-use Rattle.cc_meaning_classes.specs.declared.items.ValueKind.{ValueKind}
-use Rattle.cc_meaning_building.specs.Forms.{each_value_form, value_form}
+use Rattle.cc_meaning_dex.specs.declared.items.ValueKind.{ValueKind}
+use Rattle.cc_meaning_builder.specs.Forms.{each_value_form, value_form}
 use Rattle.cc_items.proofs.Lists.{values_more, values_end}
 use Rattle.cc_items.proofs.values.put_each.Goals as goal
 

@@ -1,5 +1,5 @@
 use Rattle.std.proofs.Common.{◌≡◌, ◌++◌, drop}
-use Rattle.cc_meaning_building.specs.Forms.{each_value_form}
+use Rattle.cc_meaning_builder.specs.Forms.{each_value_form}
 use Rattle.cc_items.proofs.values.put_each.Given as goal
 
 abbrev pub invariant-loop-place : goal.invariant-loop-place

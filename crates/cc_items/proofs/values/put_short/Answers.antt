@@ -4,7 +4,7 @@ use Rattle.std.specs.Int.{w16, w32}
 use mir.Val.{SFits, to_z, of_z}
 use Rattle.std.proofs.lemmas.Int.{to_z-of_z}
 use Rattle.std.proofs.lemmas.Result.{on_ok_weaker}
-use Rattle.cc_meaning_building.specs.Forms.{signed_form}
+use Rattle.cc_meaning_builder.specs.Forms.{signed_form}
 use Rattle.cc_items.proofs.Widths.{two_bytes}
 use Rattle.cc_items.proofs.Shapes.{short_is, no_short}
 use Rattle.cc_items.proofs.values.put_short.Goals as goal

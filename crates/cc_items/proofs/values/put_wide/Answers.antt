@@ -3,7 +3,7 @@ use Rattle.std.specs.Int.{w32}
 use mir.Val.{to_z, of_z}
 use Rattle.std.proofs.lemmas.Int.{to_z-of_z}
 use Rattle.std.proofs.lemmas.Result.{on_ok_weaker}
-use Rattle.cc_meaning_building.specs.Forms.{signed_form}
+use Rattle.cc_meaning_builder.specs.Forms.{signed_form}
 use Rattle.cc_items.proofs.Widths.{four_bytes}
 use Rattle.cc_items.proofs.values.put_wide.Goals as goal
 

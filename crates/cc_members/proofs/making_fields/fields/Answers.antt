@@ -2,8 +2,8 @@ use Rattle.std.proofs.Common.{◌≡◌, get_or, length, Some, sym, ap, subst, �
 use Rattle.std.specs.Prelude.{slice_get}
 use Rattle.std.proofs.lemmas.Option.{slice_get-get_or}
 use Rattle.cc_meaning.specs.declared.program.Field.{Field}
-use Rattle.cc_meaning_linking.specs.declared.plan.FieldPlan.{FieldPlan}
-use Rattle.cc_meaning_linking.specs.declared.plan.FieldSource.TheVariants as from
+use Rattle.cc_meaning_program.specs.declared.plan.FieldPlan.{FieldPlan}
+use Rattle.cc_meaning_program.specs.declared.plan.FieldSource.TheVariants as from
 use Rattle.cc_members.specs.Made.{EachMade}
 use Rattle.cc_members.specs.MadeFields.{FieldMade}
 use Rattle.cc_members.proofs.FieldsMade.{can_be_made, have_names, are_planned}

@@ -1,5 +1,5 @@
 use Rattle.cc_meaning.specs.declared.program.Field.{Field}
-use Rattle.cc_meaning_linking.specs.declared.plan.FieldPlan.{FieldPlan}
+use Rattle.cc_meaning_program.specs.declared.plan.FieldPlan.{FieldPlan}
 use Rattle.cc_members.specs.Made.{EachMade}
 use Rattle.cc_members.specs.MadeFields.{FieldMade}
 use Rattle.cc_members.proofs.making_fields.fields.Given as goal

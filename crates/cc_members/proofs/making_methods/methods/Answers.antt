@@ -2,8 +2,8 @@ use Rattle.std.proofs.Common.{◌≡◌, get_or, length, Some, sym, ap, subst, �
 use Rattle.std.specs.Prelude.{slice_get}
 use Rattle.std.proofs.lemmas.Option.{slice_get-get_or}
 use Rattle.cc_meaning.specs.declared.program.Method.{Method}
-use Rattle.cc_meaning_linking.specs.declared.plan.MethodPlan.{MethodPlan}
-use Rattle.cc_meaning_linking.specs.declared.plan.MethodSource.TheVariants as from
+use Rattle.cc_meaning_program.specs.declared.plan.MethodPlan.{MethodPlan}
+use Rattle.cc_meaning_program.specs.declared.plan.MethodSource.TheVariants as from
 use Rattle.cc_members.specs.Made.{EachMade}
 use Rattle.cc_members.specs.MadeMethods.{MethodMade}
 use Rattle.cc_members.proofs.BodiesTaken.{all_left, rest_left}

@@ -1,5 +1,5 @@
 use Rattle.cc_meaning.specs.declared.program.Method.{Method}
-use Rattle.cc_meaning_linking.specs.declared.plan.MethodPlan.{MethodPlan}
+use Rattle.cc_meaning_program.specs.declared.plan.MethodPlan.{MethodPlan}
 use Rattle.cc_members.specs.Made.{EachMade}
 use Rattle.cc_members.specs.MadeMethods.{MethodMade}
 use Rattle.cc_members.specs.MethodPremises.{BodiesLeft}

@@ -1,5 +1,5 @@
 use Rattle.std.proofs.Common.{◌≡◌, ◌+◌, drop}
-use Rattle.cc_meaning_file.specs.Descriptors.{dims_of}
+use Rattle.cc_meaning_dex.specs.Descriptors.{dims_of}
 use Rattle.cc_names.proofs.rows.dims_of.Given as goal
 
 abbrev pub invariant-loop-place : goal.invariant-loop-place

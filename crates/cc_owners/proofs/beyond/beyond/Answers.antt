@@ -1,6 +1,6 @@
 use Rattle.std.proofs.Common.{◌∷◌, Some, take, drop, subst, sym, ap, ◌∙◌, arith}
 use Rattle.std.specs.Prelude.{Contains}
-use Rattle.cc_meaning_linking.specs.Outlines.{AreNumbersOf}
+use Rattle.cc_meaning_program.specs.Outlines.{AreNumbersOf}
 use Rattle.cc_owners.specs.Beyond.{IsUndefined, listed, outside}
 use Rattle.cc_owners.proofs.Climbing.{from_there}
 use Rattle.cc_owners.proofs.Inheriting.{at_place, numbers_dropped, numbers_within}

@@ -1,6 +1,6 @@
 use Rattle.std.proofs.Common.{ℕ, List, take}
-use Rattle.cc_meaning_resolution.specs.Searches.{NoneOf}
-use Rattle.cc_meaning_linking.specs.Outlines.{AreNumbersOf}
+use Rattle.cc_meaning_program.specs.Searches.{NoneOf}
+use Rattle.cc_meaning_program.specs.Outlines.{AreNumbersOf}
 use Rattle.cc_owners.specs.Beyond.{Listed}
 use Rattle.cc_owners.proofs.beyond.first_listed.Given as goal
 

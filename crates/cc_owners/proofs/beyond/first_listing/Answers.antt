@@ -1,8 +1,8 @@
 use Rattle.std.proofs.Common.{inl, inr, [], ◌∷◌, ◌≡◌, true, get_or, subst, sym, ap, ◌∙◌, arith}
 use Rattle.std.specs.Prelude.{Contains, cond}
 use Rattle.std.proofs.lemmas.List.Elements.{Contains-get_or}
-use Rattle.cc_meaning_resolution.specs.Ancestry.{kind_of_class}
-use Rattle.cc_meaning_resolution.specs.Owners.{inherits}
+use Rattle.cc_meaning_program.specs.Ancestry.{kind_of_class}
+use Rattle.cc_meaning_program.specs.Owners.{inherits}
 use Rattle.cc_owners.proofs.Inheriting.{looked_held, matched, numbers_looked, none_inherited, none_listing, first_inherited, inherits_not, inherits_built_in, inherits_array}
 use Rattle.cc_owners.proofs.Lists.{some_is, number_at}
 use Rattle.cc_owners.proofs.beyond.first_listing.Goals as goal

@@ -1,7 +1,7 @@
 use Rattle.std.proofs.Common.{◌++◌}
 use Rattle.std.specs.List.{flat_map}
 use Rattle.std.proofs.lemmas.Bool.{OnTrue_at}
-use Rattle.cc_meaning_resolution.specs.Ancestry.{interfaces_named}
+use Rattle.cc_meaning_program.specs.Ancestry.{interfaces_named}
 use Rattle.cc_owners.specs.Known.{Has}
 use Rattle.cc_owners.proofs.Placing.{none_of_all}
 use Rattle.cc_owners.proofs.Chains.{entered_fresh, found_in_class, found_above}

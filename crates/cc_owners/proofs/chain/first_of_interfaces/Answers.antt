@@ -1,8 +1,8 @@
 use Rattle.std.proofs.Common.{inl, get_or, take, sym, subst, ◌∙◌, arith}
 use Rattle.std.specs.Prelude.{Contains}
 use Rattle.std.proofs.lemmas.List.Elements.{Contains-get_or}
-use Rattle.cc_meaning_resolution.specs.Ancestry.{interfaces_named}
-use Rattle.cc_meaning_linking.specs.Outlines.{AreNumbersOf}
+use Rattle.cc_meaning_program.specs.Ancestry.{interfaces_named}
+use Rattle.cc_meaning_program.specs.Outlines.{AreNumbersOf}
 use Rattle.cc_owners.specs.Entered.{IsFoundAbove}
 use Rattle.cc_owners.proofs.Chains.{only_both, entered_of, named_of, searched_none, searched_more, searched_found, searched_all}
 use Rattle.cc_owners.proofs.Inheriting.{numbers_within}

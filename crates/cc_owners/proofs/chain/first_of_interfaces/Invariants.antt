@@ -1,7 +1,7 @@
 use Rattle.std.proofs.Common.{◌≡◌, ℕ, List, length, take, None}
 use Rattle.std.specs.List.{flat_map}
-use Rattle.cc_meaning_resolution.specs.Ancestry.{interfaces_named}
-use Rattle.cc_meaning_linking.specs.Outlines.{AreNumbersOf}
+use Rattle.cc_meaning_program.specs.Ancestry.{interfaces_named}
+use Rattle.cc_meaning_program.specs.Outlines.{AreNumbersOf}
 use Rattle.cc_owners.specs.Entered.{OnlyMarked, IsFoundAbove}
 use Rattle.cc_owners.proofs.chain.first_of_interfaces.Given as goal
 

@@ -1,9 +1,9 @@
 use Rattle.std.proofs.Common.{[], get_or, subst, sym, ◌∙◌}
 use Rattle.std.specs.Prelude.{Contains}
 use Rattle.std.proofs.lemmas.Option.{slice_get-get_or}
-use Rattle.cc_meaning_resolution.specs.Ancestry.{interfaces_named}
-use Rattle.cc_meaning_resolution.specs.Searches.{First}
-use Rattle.cc_meaning_linking.specs.Outlines.{AreNumbersOf}
+use Rattle.cc_meaning_program.specs.Ancestry.{interfaces_named}
+use Rattle.cc_meaning_program.specs.Searches.{First}
+use Rattle.cc_meaning_program.specs.Outlines.{AreNumbersOf}
 use Rattle.cc_owners.proofs.FieldChains.{at_class, at_interfaces}
 use Rattle.cc_owners.proofs.Inheriting.{numbers_within}
 use Rattle.cc_owners.proofs.Placing.{has, has_not}

@@ -1,5 +1,5 @@
 use Rattle.std.proofs.Common.{◌≡◌, ℕ, List, length, take}
-use Rattle.cc_meaning_linking.specs.Outlines.{AreNumbersOf}
+use Rattle.cc_meaning_program.specs.Outlines.{AreNumbersOf}
 use Rattle.cc_owners.specs.Entered.{OnlyMarked, AreEntered}
 use Rattle.cc_owners.proofs.FieldChains.{Cleared}
 use Rattle.cc_owners.proofs.field_chain.first_in_field_order.Given as goal

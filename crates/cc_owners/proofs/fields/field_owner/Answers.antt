@@ -1,6 +1,6 @@
 use Rattle.std.proofs.Common.{Some, get_or, subst, sym, ap, ◌∙◌}
 use Rattle.std.specs.Prelude.{Contains}
-use Rattle.cc_meaning_linking.specs.Outlines.{AreNumbersOf}
+use Rattle.cc_meaning_program.specs.Outlines.{AreNumbersOf}
 use Rattle.cc_owners.specs.Fields.{IsFoundInFieldOrder}
 use Rattle.cc_owners.proofs.Climbing.{named_there}
 use Rattle.cc_owners.proofs.FieldOwning.{of_file, not_of_file}

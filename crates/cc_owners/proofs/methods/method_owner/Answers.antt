@@ -1,7 +1,7 @@
 use Rattle.std.proofs.Common.{subst, sym, ◌∙◌}
 use Rattle.std.specs.Prelude.{Contains}
 use Rattle.cc_meaning_program.specs.Named.{type_name}
-use Rattle.cc_meaning_linking.specs.Outlines.{AreNumbersOf}
+use Rattle.cc_meaning_program.specs.Outlines.{AreNumbersOf}
 use Rattle.cc_owners.specs.Beyond.{IsBeyondOwner}
 use Rattle.cc_owners.specs.Entered.{IsFoundInMethodOrder}
 use Rattle.cc_owners.proofs.Climbing.{named_there}

@@ -1,6 +1,6 @@
 use Rattle.std.proofs.Common.{ℕ, List, take}
-use Rattle.cc_meaning_resolution.specs.Searches.{NoneOf}
-use Rattle.cc_meaning_linking.specs.Outlines.{AreNumbersOf}
+use Rattle.cc_meaning_program.specs.Searches.{NoneOf}
+use Rattle.cc_meaning_program.specs.Outlines.{AreNumbersOf}
 use Rattle.cc_owners.specs.Known.{Has}
 use Rattle.cc_owners.proofs.place.first_among.Given as goal
 

@@ -1,5 +1,5 @@
 use Rattle.std.proofs.Common.{◌≡◌, ◌+◌, ℕ, List, length}
-use Rattle.cc_meaning_linking.specs.Outlines.{AreNumbersOf}
+use Rattle.cc_meaning_program.specs.Outlines.{AreNumbersOf}
 use Rattle.cc_owners.specs.Entered.{OnlyMarked}
 use Rattle.cc_owners.proofs.Searching.{Searches, unentered}
 use Rattle.cc_owners.proofs.search.first_above.Given as goal

@@ -1,5 +1,5 @@
 use Rattle.std.proofs.Common.{subst}
-use Rattle.cc_meaning_file.specs.Leb128.{SpellsUleb}
+use Rattle.cc_meaning_dex.specs.Leb128.{SpellsUleb}
 use Rattle.cc_plain.proofs.TextLemmas.{other_count, text_from_bytes, bytes_from_text}
 use Rattle.cc_plain.proofs.names.is_text.Goals as goal
 

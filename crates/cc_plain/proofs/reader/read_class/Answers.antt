@@ -1,5 +1,5 @@
 use Rattle.std.proofs.Common.{ap, ◌∙◌}
-use Rattle.cc_meaning_file.specs.Numbers.{u32_at}
+use Rattle.cc_meaning_dex.specs.Numbers.{u32_at}
 use Rattle.cc_plain.proofs.ReaderLemmas.{no_class, no_descriptor}
 use Rattle.cc_plain.proofs.reader.read_class.Goals as goal
 

@@ -1,5 +1,5 @@
 use Rattle.std.proofs.Common.{◌+◌, ap, ◌∙◌}
-use Rattle.cc_meaning_file.specs.Numbers.{u32_at}
+use Rattle.cc_meaning_dex.specs.Numbers.{u32_at}
 use Rattle.cc_plain.proofs.ReaderLemmas.{no_data, no_methods, no_order}
 use Rattle.cc_plain.proofs.reader.read_functions.Goals as goal
 

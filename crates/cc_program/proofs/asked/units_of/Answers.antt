@@ -4,7 +4,7 @@ use Rattle.std.specs.Char.Escape.{encode_utf16}
 use Rattle.std.proofs.lemmas.Iterator.{YieldsList-from_chars}
 use Rattle.std.proofs.lemmas.Iterator.Consumers.{YieldsList-turn, YieldsList-end}
 use Rattle.std.proofs.lemmas.List.{length_push}
-use Rattle.cc_program.specs.Asked.{units_of}
+use Rattle.cc_meaning_program.specs.Asked.{units_of}
 use Rattle.cc_program.proofs.Showing.{Shows, shows_more, shows_all}
 use Rattle.cc_program.proofs.asked.units_of.Goals as goal
 

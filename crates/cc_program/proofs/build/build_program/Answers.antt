@@ -3,8 +3,8 @@ use Rattle.std.specs.Prelude.{IfErr}
 use Rattle.std.specs.Option.{option_copied}
 use Rattle.std.proofs.lemmas.Result.{err_from_is_err_and}
 use Rattle.cc_meaning.specs.declared.fault.ProgramFault.TheVariants as faults
-use Rattle.cc_program.specs.Asked.{asked_class}
-use Rattle.cc_program.specs.Faults.{IsProgramFault}
+use Rattle.cc_meaning_program.specs.Asked.{asked_class}
+use Rattle.cc_meaning_program.specs.Faults.{IsProgramFault}
 use Rattle.cc_program.proofs.Faulty.{none_asked}
 use Rattle.cc_program.proofs.build.build_program.Goals as goal
 

@@ -1,7 +1,7 @@
 use Rattle.std.proofs.Common.{sym, subst}
 use Rattle.std.specs.Bool.{Decides}
-use Rattle.cc_meaning_linking.specs.declared.plan.MethodSource.{MethodSource}
-use Rattle.cc_meaning_resolution.specs.Programs.{main_member}
+use Rattle.cc_meaning_program.specs.declared.plan.MethodSource.{MethodSource}
+use Rattle.cc_meaning_program.specs.Programs.{main_member}
 use Rattle.cc_program.specs.Mains.{IsMainSource}
 use Rattle.cc_program.proofs.MainPlans.{decides_source}
 use Rattle.cc_program.proofs.main_class.is_main_source.Goals as goal

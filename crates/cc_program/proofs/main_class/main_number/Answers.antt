@@ -1,5 +1,5 @@
 use Rattle.std.proofs.Common.{◌≡◌, ◌+◌, ℕ, List, length, ap, sym, refl, arith, subst}
-use Rattle.cc_meaning_linking.specs.declared.plan.MethodPlan.{MethodPlan}
+use Rattle.cc_meaning_program.specs.declared.plan.MethodPlan.{MethodPlan}
 use Rattle.cc_program.specs.Mains.{IsMainPlan}
 use Rattle.cc_program.proofs.MainPlans.{NoMainPlanBefore, one_more, one_there, is_plan}
 use Rattle.cc_program.proofs.main_class.main_number.Goals as goal

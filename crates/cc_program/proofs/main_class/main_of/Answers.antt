@@ -2,7 +2,7 @@ use Rattle.std.proofs.Common.{◌≡◌, ◌<◌, true, false, ℕ, List, length
 use Rattle.std.specs.Str.{bytes_eq}
 use Rattle.cc_meaning.specs.declared.file.RawMethod.{RawMethod}
 use Rattle.cc_meaning_program.specs.Named.{method_member}
-use Rattle.cc_meaning_resolution.specs.Programs.{main_member}
+use Rattle.cc_meaning_program.specs.Programs.{main_member}
 use Rattle.cc_program.specs.Mains.{IsRunnable}
 use Rattle.cc_program.proofs.Mains.{IsFirstNamed, NoneNamedBefore, is_main, no_main, no_named, one_more}
 use Rattle.cc_program.proofs.main_class.main_of.Goals as goal

@@ -1,6 +1,6 @@
 use Rattle.std.proofs.Common.{◌≡◌, ◌++◌, take}
 use Rattle.std.specs.List.{flat_map}
-use Rattle.cc_meaning_building.specs.Named.{field_names}
+use Rattle.cc_meaning_builder.specs.Named.{field_names}
 use Rattle.cc_tables.proofs.names.add_fields.Given as goal
 
 abbrev pub invariant-loop-field : goal.invariant-loop-field

@@ -1,6 +1,6 @@
 use Rattle.std.proofs.Common.{◌≡◌, ◌++◌, take}
 use Rattle.std.specs.List.{flat_map}
-use Rattle.cc_meaning_building.specs.Named.{method_names}
+use Rattle.cc_meaning_builder.specs.Named.{method_names}
 use Rattle.cc_tables.proofs.names.add_methods.Given as goal
 
 abbrev pub invariant-loop-method : goal.invariant-loop-method

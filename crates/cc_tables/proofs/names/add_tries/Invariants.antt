@@ -1,6 +1,6 @@
 use Rattle.std.proofs.Common.{◌≡◌, ◌++◌, take}
 use Rattle.std.specs.List.{flat_map}
-use Rattle.cc_meaning_building.specs.Named.{try_names}
+use Rattle.cc_meaning_builder.specs.Named.{try_names}
 use Rattle.cc_tables.proofs.names.add_tries.Given as goal
 
 abbrev pub invariant-loop-entry : goal.invariant-loop-entry

@@ -1,6 +1,6 @@
 use Rattle.std.proofs.Common.{map, Bor, subst}
 use Rattle.cc_meaning.specs.declared.file.ProtoRow.{ProtoRow}
-use Rattle.cc_meaning_building.specs.Tables.{prototype_key}
+use Rattle.cc_meaning_builder.specs.Tables.{prototype_key}
 use Rattle.cc_names.specs.InOrder.{AreInOrder}
 use Rattle.cc_tables.proofs.Mapped.{in_order_mapped, ok_copied}
 use Rattle.cc_tables.proofs.order.proto_table.Goals as goal

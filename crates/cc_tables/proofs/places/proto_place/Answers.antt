@@ -6,7 +6,7 @@ use Rattle.std.specs.declared.cmp.Ordering.{Ordering}
 use Rattle.std.specs.declared.cmp.Ordering.TheVariants.{Equal}
 use Rattle.std.proofs.lemmas.Fn.{always_returns_same}
 use Rattle.cc_meaning.specs.declared.file.ProtoRow.{ProtoRow}
-use Rattle.cc_meaning_building.specs.Tables.{prototype_key}
+use Rattle.cc_meaning_builder.specs.Tables.{prototype_key}
 use Rattle.cc_tables.proofs.Placing.{found, not_found}
 use Rattle.cc_tables.proofs.places.proto_place.Goals as goal
 

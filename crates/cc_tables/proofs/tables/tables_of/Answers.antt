@@ -1,5 +1,5 @@
 use Rattle.std.proofs.Common.{subst, ap, ◌∙◌}
-use Rattle.cc_meaning_building.specs.Named.{all_names}
+use Rattle.cc_meaning_builder.specs.Named.{all_names}
 use Rattle.cc_tables.specs.Needs.{AreNeeds}
 use Rattle.cc_tables.proofs.Tabled.{ordered, tables}
 use Rattle.cc_tables.proofs.tables.tables_of.Goals as goal

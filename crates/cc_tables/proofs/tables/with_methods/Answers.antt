@@ -1,5 +1,5 @@
 use Rattle.std.proofs.Common.{map, ap, subst, ◌∙◌}
-use Rattle.cc_meaning_building.specs.Tables.{method_key}
+use Rattle.cc_meaning_builder.specs.Tables.{method_key}
 use Rattle.cc_names.specs.InOrder.{AreInOrder}
 use Rattle.cc_tables.specs.Places.{method_row_of}
 use Rattle.cc_tables.proofs.Counts.{protos_made}

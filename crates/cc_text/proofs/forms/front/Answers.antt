@@ -1,7 +1,7 @@
 use Rattle.std.proofs.Common.{◌≡◌, ◌<◌, ◌∙◌, length, get_or, sym, ap, refl, inl, inr, arith}
 use Rattle.std.proofs.lemmas.Bool.Decides.{nat_tests}
 use Rattle.std.proofs.lemmas.List.{take_rest}
-use Rattle.cc_meaning_file.specs.Mutf8.{front_of_two, front_of_three}
+use Rattle.cc_meaning_dex.specs.Mutf8.{front_of_two, front_of_three}
 use Rattle.cc_text.proofs.Fronts.{front_none, front_zero, front_one, front_stray, front_two, front_three, front_high}
 use Rattle.cc_text.proofs.forms.front.Goals as goal
 

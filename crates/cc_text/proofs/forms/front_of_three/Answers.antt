@@ -1,6 +1,6 @@
 use Rattle.std.proofs.Common.{◌≡◌, ◌+◌, ◌-◌, ◌*◌, ◌<◌, true, false, length, get_or, sym, arith}
 use Rattle.std.proofs.lemmas.Bool.Decides.{nat_tests}
-use Rattle.cc_meaning_file.specs.Mutf8.{goes_on, begins_three}
+use Rattle.cc_meaning_dex.specs.Mutf8.{goes_on, begins_three}
 use Rattle.cc_text.proofs.Fronts.{three_none, three_stray, three_cut, three_bad_end, three_unit}
 use Rattle.cc_text.proofs.forms.front_of_three.Goals as goal
 

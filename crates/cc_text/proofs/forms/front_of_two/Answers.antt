@@ -1,6 +1,6 @@
 use Rattle.std.proofs.Common.{◌≡◌, ◌+◌, ◌-◌, ◌*◌, ◌<◌, true, false, length, get_or, sym, inl, inr, arith}
 use Rattle.std.proofs.lemmas.Bool.Decides.{nat_tests}
-use Rattle.cc_meaning_file.specs.Mutf8.{goes_on}
+use Rattle.cc_meaning_dex.specs.Mutf8.{goes_on}
 use Rattle.cc_text.proofs.Fronts.{two_none, two_cut, two_stray, two_unit, two_low}
 use Rattle.cc_text.proofs.forms.front_of_two.Goals as goal
 

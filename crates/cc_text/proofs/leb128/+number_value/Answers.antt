@@ -1,7 +1,7 @@
 use Rattle.std.proofs.Common.{◌≡◌, ◌<◌, ◌≤◌, ◌^◌, length, drop, arith, sym, ap, ◌∙◌}
 use Rattle.std.proofs.lemmas.Bool.Decides.{nat_tests}
 use Rattle.std.proofs.lemmas.List.{length-drop, take_rest}
-use Rattle.cc_meaning_file.specs.Leb128.{leb_value}
+use Rattle.cc_meaning_dex.specs.Leb128.{leb_value}
 use Rattle.cc_text.proofs.Leb.{leb_value-below, leb_value-first, leb_value-none}
 use Rattle.cc_text.proofs.leb128.+number_value.Goals as goal
 

@@ -1,7 +1,7 @@
 use Rattle.std.proofs.Common.{◌≡◌, ◌%◌, ◌<◌, ◌≤◌, length, drop, get_or, arith, ap, ◌∙◌}
 use Rattle.std.proofs.lemmas.Int.{ints}
 use Rattle.std.proofs.lemmas.List.{length-drop, take_rest}
-use Rattle.cc_meaning_file.specs.Leb128.{signed_leb_value}
+use Rattle.cc_meaning_dex.specs.Leb128.{signed_leb_value}
 use Rattle.cc_text.proofs.Signed.{signed_near, signed_more, signed_low, signed_high}
 use Rattle.cc_text.proofs.leb128.+signed_value.Goals as goal
 

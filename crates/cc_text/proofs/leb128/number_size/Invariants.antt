@@ -1,5 +1,5 @@
 use Rattle.std.proofs.Common.{◌≡◌, ◌-◌, drop}
-use Rattle.cc_meaning_file.specs.Leb128.{leb_size}
+use Rattle.cc_meaning_dex.specs.Leb128.{leb_size}
 use Rattle.cc_text.proofs.Leb.{ahead}
 use Rattle.cc_text.proofs.leb128.number_size.Given as goal
 

@@ -1,7 +1,7 @@
 use Rattle.std.proofs.Common.{◌≡◌, ◌+◌, ◌^◌, take, ◌⊎◌, ◌<ℤ◌, ◌≤ℤ◌, neg_ℤ, to_z, of_z, w32, w64, sym, ap, ◌∙◌, inl, inr, Ok, pos, arith}
 use Rattle.std.proofs.lemmas.Int.{ints}
 use Rattle.std.proofs.lemmas.Result.{err_from_is_err_and}
-use Rattle.cc_meaning_file.specs.Leb128.{FitsI32, leb_size, signed_leb_value}
+use Rattle.cc_meaning_dex.specs.Leb128.{FitsI32, leb_size, signed_leb_value}
 use Rattle.cc_text.proofs.Signed.{sleb_at-Err, sleb_at-Ok, sleb_at-big, sleb_at-past}
 use Rattle.cc_text.proofs.leb128.read_sleb.Goals as goal
 use Rattle.cc_text.proofs.leb128.read_sleb.Goals.{else-value-from-via-then-value-from+else-value-from-2, else-value-from-via-else-value-from}

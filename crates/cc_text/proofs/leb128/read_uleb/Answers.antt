@@ -1,6 +1,6 @@
 use Rattle.std.proofs.Common.{◌+◌, take, sym, ap, ◌∙◌, Ok, arith}
 use Rattle.std.proofs.lemmas.Result.{err_from_is_err_and}
-use Rattle.cc_meaning_file.specs.Leb128.{leb_size, leb_value}
+use Rattle.cc_meaning_dex.specs.Leb128.{leb_size, leb_value}
 use Rattle.cc_text.proofs.Leb.{uleb_at-Err, uleb_at-Ok, uleb_at-large, uleb_at-past}
 use Rattle.cc_text.proofs.leb128.read_uleb.Goals as goal
 

@@ -1,5 +1,5 @@
 use Rattle.std.proofs.Common.{sym, ap, ◌∙◌, Ok}
-use Rattle.cc_meaning_file.specs.Mutf8.{front_of}
+use Rattle.cc_meaning_dex.specs.Mutf8.{front_of}
 use Rattle.cc_text.proofs.Reading.{IsMeasured-more}
 use Rattle.cc_text.proofs.texts.measure.Goals as goal
 

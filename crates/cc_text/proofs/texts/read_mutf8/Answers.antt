@@ -1,6 +1,6 @@
 use Rattle.std.proofs.Common.{◌≡◌, ℕ, List, drop, Ok, Err, refl, sym, ap, ◌∙◌, arith}
 use Rattle.std.proofs.lemmas.Result.{err_from_is_err_and, IfOk-at_ok}
-use Rattle.cc_meaning_file.specs.Mutf8.{text_of}
+use Rattle.cc_meaning_dex.specs.Mutf8.{text_of}
 use Rattle.cc_text.proofs.Reading.{measured-Err, measured-Ok, mutf8_at-Err, mutf8_at-other, mutf8_at-same, mutf8_at-past, same_fault}
 use Rattle.cc_text.proofs.texts.read_mutf8.Goals as goal
 

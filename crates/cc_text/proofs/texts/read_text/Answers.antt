@@ -1,5 +1,5 @@
 use Rattle.std.proofs.Common.{sym, ap, ◌∙◌, Err}
-use Rattle.cc_meaning_file.specs.Mutf8.{mutf8_at}
+use Rattle.cc_meaning_dex.specs.Mutf8.{mutf8_at}
 use Rattle.cc_text.proofs.Reading.{same_fault}
 use Rattle.cc_text.proofs.Items.{item_counted, item_cut, item_big, text_from_item, text_found}
 use Rattle.cc_text.proofs.texts.read_text.Goals as goal

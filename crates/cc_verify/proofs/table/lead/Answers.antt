@@ -1,8 +1,8 @@
 use Rattle.std.proofs.Common.{◌≡◌, ◌≢◌, ◌<◌, ◌∙◌, true, ap, sym, subst, slice_set}
 use Rattle.std.specs.Prelude.{Some}
-use Rattle.cc_meaning_verify.specs.Tries.{lead, joined, state_at, Marks}
+use Rattle.cc_meaning_typing.specs.Tries.{lead, joined, state_at, Marks}
 use Rattle.cc_meaning_typing.specs.declared.state.State.{State}
-use Rattle.cc_meaning_verify.specs.Laws.{Spreads}
+use Rattle.cc_meaning_typing.specs.VerifyLaws.{Spreads}
 use Rattle.cc_transfer.specs.Bodies.{body_of}
 use Rattle.cc_verify.specs.Tables.{due_of}
 use Rattle.cc_verify.proofs.Tables.{by_true, by_false, marks_changed, marks_unchanged, state_known, updated_same, updated_other}

@@ -1,6 +1,6 @@
 use Rattle.std.proofs.Common.{◌∙◌, ap, slice_set, replicate}
 use Rattle.std.specs.Prelude.{Some, None}
-use Rattle.cc_meaning_verify.specs.Tries.{units_of, opening_states}
+use Rattle.cc_meaning_typing.specs.Tries.{units_of, opening_states}
 use Rattle.cc_verify.proofs.Tables.{opened_due}
 use Rattle.cc_verify.proofs.table.opened.Goals as goal
 

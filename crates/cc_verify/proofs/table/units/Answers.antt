@@ -1,5 +1,5 @@
 use Rattle.std.proofs.Common.{◌∙◌, refl, ap, arith}
-use Rattle.cc_meaning_verify.specs.Tries.{units_in, units_of}
+use Rattle.cc_meaning_typing.specs.Tries.{units_in, units_of}
 use Rattle.cc_verify.proofs.Tables.{take_all, get_item}
 use Rattle.cc_verify.proofs.table.units.Goals as goal
 

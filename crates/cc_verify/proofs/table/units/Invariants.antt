@@ -1,5 +1,5 @@
 use Rattle.std.specs.Prelude.{◌≡◌, ◌<◌, ◌^◌, take}
-use Rattle.cc_meaning_verify.specs.Tries.{units_in}
+use Rattle.cc_meaning_typing.specs.Tries.{units_in}
 use Rattle.cc_verify.proofs.table.units.Given as goal
 
 abbrev pub invariant-loop-placed : goal.invariant-loop-placed

@@ -1,7 +1,7 @@
 use Rattle.std.specs.Prelude.{◌≡◌, drop}
-use Rattle.cc_meaning_verify.specs.Ending.{AreNarrowStates}
-use Rattle.cc_meaning_verify.specs.Laws.{Spreads}
-use Rattle.cc_meaning_verify.specs.Tries.{catch_all}
+use Rattle.cc_meaning_typing.specs.Ending.{AreNarrowStates}
+use Rattle.cc_meaning_typing.specs.VerifyLaws.{Spreads}
+use Rattle.cc_meaning_typing.specs.Tries.{catch_all}
 use Rattle.cc_transfer.specs.Bodies.{body_of}
 use Rattle.cc_verify.specs.Tables.{due_of}
 use Rattle.cc_verify.proofs.tries.catch_all.Given as goal

@@ -1,5 +1,5 @@
 use Rattle.std.proofs.Common.{◌∙◌, refl, subst, arith}
-use Rattle.cc_meaning_verify.specs.Tries.{state_at}
+use Rattle.cc_meaning_typing.specs.Tries.{state_at}
 use Rattle.cc_transfer.specs.Bodies.{body_of}
 use Rattle.cc_verify.specs.declared.table.Table.{Table}
 use Rattle.cc_verify.specs.Tables.{due_of, Tried}

@@ -1,4 +1,4 @@
-use Rattle.cc_meaning_verify.specs.Ending.{AreNarrowStates, tries_room}
+use Rattle.cc_meaning_typing.specs.Ending.{AreNarrowStates, tries_room}
 use Rattle.cc_transfer.specs.Bodies.{body_of}
 use Rattle.cc_verify.specs.Tables.{due_of}
 use Rattle.cc_verify.proofs.Steps.{Progress}

@@ -4,7 +4,7 @@ use Rattle.std.specs.Prelude.{All}
 use Rattle.cc_meaning_typing.specs.Code.{successors}
 use Rattle.cc_meaning_typing.specs.Rules.{after}
 use Rattle.cc_meaning_typing.specs.Typing.{TakesReference}
-use Rattle.cc_meaning_verify.specs.Tries.{catch_all, lead_all, tried}
+use Rattle.cc_meaning_typing.specs.Tries.{catch_all, lead_all, tried}
 use Rattle.cc_transfer.specs.Bodies.{body_of}
 use Rattle.cc_verify.specs.Tables.{due_of}
 use Rattle.cc_verify.proofs.tries.try_at.Goals as goal

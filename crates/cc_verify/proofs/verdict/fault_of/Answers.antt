@@ -1,8 +1,8 @@
 use Rattle.std.proofs.Common.{refl, subst}
-use Rattle.cc_meaning_verify.specs.Faults.{IsTooWide, StaysWithin, FallsOff, too_wide, bad_target, unknown_member, falls_off, ill_typed}
+use Rattle.cc_meaning_typing.specs.Faults.{IsTooWide, StaysWithin, FallsOff, too_wide, bad_target, unknown_member, falls_off, ill_typed}
 use Rattle.std.specs.Prelude.{MatchOption}
-use Rattle.cc_meaning_verify.specs.Laws.{IsClosed}
-use Rattle.cc_meaning_verify.specs.Tries.{States, state_at, EndsWith, BreaksAt}
+use Rattle.cc_meaning_typing.specs.VerifyLaws.{IsClosed}
+use Rattle.cc_meaning_typing.specs.Tries.{States, state_at, EndsWith, BreaksAt}
 use Rattle.cc_transfer.specs.Bodies.{body_of}
 use Rattle.cc_verify.proofs.Tables.{by_true, by_false}
 use Rattle.cc_verify.proofs.Verdicts.{not_so}

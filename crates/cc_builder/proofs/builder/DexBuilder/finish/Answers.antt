@@ -1,8 +1,8 @@
 use Rattle.std.proofs.Common.{List, subst}
 use Rattle.std.specs.Prelude.{IfOk}
-use Rattle.cc_meaning_building.specs.declared.content.ListedClass.{ListedClass}
-use Rattle.cc_meaning_building.specs.Built.{Built}
-use Rattle.cc_meaning_building.specs.WellNamed.{WellNamed}
+use Rattle.cc_meaning_builder.specs.declared.content.ListedClass.{ListedClass}
+use Rattle.cc_meaning_builder.specs.Built.{Built}
+use Rattle.cc_meaning_builder.specs.WellNamed.{WellNamed}
 use Rattle.cc_builder.proofs.Finishing.{finished}
 use Rattle.cc_builder.proofs.builder.DexBuilder.finish.Goals as goal
 

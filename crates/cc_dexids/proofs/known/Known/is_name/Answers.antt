@@ -1,5 +1,5 @@
 use Rattle.std.proofs.Common.{sym, ap, ◌∙◌}
-use Rattle.cc_meaning_file.specs.Descriptors.{is_paired}
+use Rattle.cc_meaning_dex.specs.Descriptors.{is_paired}
 use Rattle.cc_dexids.proofs.Knowing.{name_there, name_past}
 use Rattle.cc_dexids.proofs.known.Known.is_name.Goals as goal
 

@@ -1,7 +1,7 @@
 use Rattle.std.proofs.Common.{◌≡◌, ◌+◌, true, None, ap, subst, ◌∙◌}
-use Rattle.cc_meaning_file.specs.Numbers.{u32_at}
-use Rattle.cc_meaning_file.specs.Faults.{list_fault, interfaces_at, class_fits}
-use Rattle.cc_meaning_file.specs.Ids.{ListsTypes, RowStated}
+use Rattle.cc_meaning_dex.specs.Numbers.{u32_at}
+use Rattle.cc_meaning_dex.specs.Faults.{list_fault, interfaces_at, class_fits}
+use Rattle.cc_meaning_dex.specs.Ids.{ListsTypes, RowStated}
 use Rattle.cc_dexids.proofs.Spelling.{class_row}
 use Rattle.cc_dexids.proofs.readers.ClassReaderRowReader.read_row.Goals as goal
 

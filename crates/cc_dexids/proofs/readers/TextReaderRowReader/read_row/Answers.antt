@@ -1,5 +1,5 @@
 use Rattle.std.proofs.Common.{ap, ◌∙◌}
-use Rattle.cc_meaning_file.specs.Numbers.{u32_at}
+use Rattle.cc_meaning_dex.specs.Numbers.{u32_at}
 use Rattle.cc_dexids.proofs.Spelling.{text_row}
 use Rattle.cc_dexids.proofs.readers.TextReaderRowReader.read_row.Goals as goal
 

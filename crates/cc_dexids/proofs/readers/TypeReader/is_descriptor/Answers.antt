@@ -1,5 +1,5 @@
 use Rattle.std.proofs.Common.{sym, ap, ◌∙◌}
-use Rattle.cc_meaning_file.specs.Descriptors.{is_descriptor}
+use Rattle.cc_meaning_dex.specs.Descriptors.{is_descriptor}
 use Rattle.cc_dexids.proofs.Knowing.{descriptor_there, descriptor_past}
 use Rattle.cc_dexids.proofs.readers.TypeReader.is_descriptor.Goals as goal
 

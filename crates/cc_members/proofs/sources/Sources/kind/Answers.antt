@@ -1,5 +1,5 @@
 use Rattle.std.proofs.Common.{sym, ◌∙◌}
-use Rattle.cc_meaning_resolution.specs.Members.{KindResolved}
+use Rattle.cc_meaning_program.specs.Members.{KindResolved}
 use Rattle.cc_members.proofs.Spelling.{body_read}
 use Rattle.cc_members.proofs.sources.Sources.kind.Goals as goal
 

@@ -3,8 +3,8 @@ use Rattle.std.specs.Prelude.{slice_get}
 use Rattle.std.proofs.lemmas.Option.{slice_get-get_or}
 use Rattle.cc_meaning.specs.declared.program.DexType.{DexType}
 use Rattle.cc_meaning_program.specs.TypeNames.{Spells, IsTypeOf}
-use Rattle.cc_meaning_resolution.proofs.SameNames.{found_contains}
-use Rattle.cc_code.proofs.Loops.{pairs_none, pairs_more, pairs_all}
+use Rattle.cc_meaning_program.proofs.SameNames.{found_contains}
+use Rattle.cc_bodies.proofs.CodeLoops.{pairs_none, pairs_more, pairs_all}
 use Rattle.cc_members.proofs.Spelling.{flipped}
 use Rattle.cc_members.proofs.sources.Sources.spelled_types.Goals as goal
 

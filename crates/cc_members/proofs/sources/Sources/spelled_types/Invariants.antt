@@ -1,7 +1,7 @@
 use Rattle.std.proofs.Common.{ℕ, List, Bor}
 use Rattle.cc_meaning.specs.declared.program.DexType.{DexType}
 use Rattle.cc_meaning_program.specs.TypeNames.{Spells}
-use Rattle.cc_code.proofs.Loops.{PairsBefore}
+use Rattle.cc_bodies.proofs.CodeLoops.{PairsBefore}
 use Rattle.cc_members.proofs.sources.Sources.spelled_types.Given as goal
 
 abbrev pub invariant-loop-text : goal.invariant-loop-text

@@ -1,4 +1,0 @@
-pub mod Pairs
-pub mod Own
-pub mod Handlers
-pub mod ReadAgain

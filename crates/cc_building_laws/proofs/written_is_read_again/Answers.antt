@@ -1,6 +1,0 @@
-use Rattle.cc_building_laws.proofs.ReadAgain.{is_read_again}
-use Rattle.cc_building_laws.proofs.written_is_read_again.Goals as goal
-
-pub returns : goal.returns
-returns c =
-    is_read_again c.written_tables.ensures c.written_members.ensures c.written_code.ensures c.written_tries.ensures c.written_values.ensures c.members_agree.ensures

@@ -1,0 +1,2 @@
+pub mod BuiltInMethods
+pub mod Listed

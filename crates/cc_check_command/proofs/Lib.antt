@@ -1,4 +1,0 @@
-pub mod Planning
-pub mod Told
-pub mod Due
-pub mod Statuses

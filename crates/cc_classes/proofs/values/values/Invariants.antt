@@ -1,5 +1,0 @@
-use Rattle.cc_classes.proofs.Holding.{AreHeldTo}
-use Rattle.cc_classes.proofs.values.values.Given as goal
-
-abbrev pub invariant-loop-number : goal.invariant-loop-number
-invariant-loop-number l = AreHeldTo l.fields l.plans l.listed l.texts l.own l.number-index l.kept l.values

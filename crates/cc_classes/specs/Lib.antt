@@ -1,5 +1,0 @@
-pub mod Layouts
-pub mod Initialisers
-pub mod Values
-pub mod Made
-pub mod Parts

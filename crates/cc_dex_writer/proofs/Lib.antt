@@ -1,0 +1,14 @@
+pub mod Bytes
+pub mod Numbered
+pub mod Parts
+pub mod Sizes
+pub mod Digests
+pub mod Standing
+pub mod Spelled
+pub mod Whole
+pub mod Fitting
+pub mod HeadWidths
+pub mod Adding
+pub mod ItemsStanding
+pub mod Placed
+pub mod Finishing

@@ -1,4 +1,0 @@
-use Rattle.cc_file_head.proofs.tables.put_class.Goals as goal
-
-pub returns-clause-wide : goal.returns-clause-wide
-returns-clause-wide c = record { flags = c.put_numbers.ensures.wide 1; members_at = c.put_numbers.ensures.wide 6; values_at = c.put_numbers.ensures.wide 7 }

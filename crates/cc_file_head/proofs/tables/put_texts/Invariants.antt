@@ -1,7 +1,0 @@
-use Rattle.std.proofs.Common.{◌++◌}
-use Rattle.cc_file_head.specs.Rows.{numbered_form, text_row_form}
-use Rattle.cc_file_head.proofs.Numbered.{Writes}
-use Rattle.cc_file_head.proofs.tables.put_texts.Given as goal
-
-abbrev pub invariant-loop-place : goal.invariant-loop-place
-invariant-loop-place l = Writes (text_row_form l.offsets) l.out l.texts l.place (l.fn.out ++ numbered_form (text_row_form l.offsets) 0 l.texts)

@@ -1,4 +1,0 @@
-pub mod Layout
-pub mod Rows
-pub mod Whole
-pub mod Laws

@@ -1,5 +1,0 @@
-use Rattle.cc_linking_laws.proofs.Classes as classes
-use Rattle.cc_linking_laws.proofs.spelled_classes_fit.Goals as goal
-
-pub returns : goal.returns
-returns c = classes.spelled_classes_fit

@@ -1,0 +1,14 @@
+pub mod Kept
+pub mod Selection
+pub mod Starts
+pub mod Calls
+pub mod Places
+pub mod Profiles
+pub mod Bounds
+pub mod Certificates
+pub mod Texts
+pub mod WorkedPrograms
+pub mod WorkedCalls
+pub mod WorkedPlaces
+pub mod WorkedCosts
+pub mod WorkedTexts

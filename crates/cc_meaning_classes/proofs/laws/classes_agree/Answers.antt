@@ -1,5 +1,0 @@
-use Rattle.cc_meaning_classes.proofs.ClassLaws as classes
-use Rattle.cc_meaning_classes.proofs.laws.classes_agree.Goals as goal
-
-pub returns : goal.returns
-returns c = classes.classes_agree c.uleb_agrees.ensures c.sleb_agrees.ensures

@@ -1,0 +1,22 @@
+mod Worked
+pub mod LebLaws
+pub mod SlebLaws
+pub mod Forms
+pub mod FormFaults
+pub mod TextLaws
+pub mod TextFaults
+pub mod ItemLaws
+pub mod FaultLaws
+pub mod SoundLaws
+pub mod DescriptorLaws
+pub mod IdLaws
+pub mod ListLaws
+pub mod RowLaws
+pub mod Sequencing
+pub mod Owning
+pub mod MemberLaws
+pub mod TryLaws
+pub mod CodeLaws
+pub mod ValueLaws
+pub mod ClassLaws
+pub mod CauseLaws

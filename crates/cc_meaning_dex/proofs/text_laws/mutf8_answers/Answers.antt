@@ -1,0 +1,5 @@
+use Rattle.cc_meaning_dex.proofs.TextLaws as text
+use Rattle.cc_meaning_dex.proofs.text_laws.mutf8_answers.Goals as goal
+
+pub returns : goal.returns
+returns c = text.mutf8_answers

@@ -1,0 +1,6 @@
+mod WorkedNumbers
+mod WorkedObjects
+mod WorkedCalls
+mod WorkedRuns
+mod WorkedSteps
+mod WorkedCorners

@@ -1,5 +1,0 @@
-use Rattle.cc_meaning_file.proofs.SoundLaws as sound
-use Rattle.cc_meaning_file.proofs.table_laws.texts_judged.Goals as goal
-
-pub returns : goal.returns
-returns c = sound.texts_judged c.text_agrees.ensures

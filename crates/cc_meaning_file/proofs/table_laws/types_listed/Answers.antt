@@ -1,5 +1,0 @@
-use Rattle.cc_meaning_file.proofs.ListLaws as lists
-use Rattle.cc_meaning_file.proofs.table_laws.types_listed.Goals as goal
-
-pub returns : goal.returns
-returns c = lists.types_listed

@@ -1,2 +1,0 @@
-//! The lines that are printed.
-#![tactic(auto)]

@@ -1,5 +1,0 @@
-use Rattle.cc_meaning_resolution.proofs.OneProgram as programs
-use Rattle.cc_meaning_resolution.proofs.one_program.Goals as goal
-
-pub returns : goal.returns
-returns c = programs.one_program c.one_class_names.ensures c.one_texts.ensures c.spelled_once.ensures c.one_reading.ensures

@@ -1,9 +1,0 @@
-pub mod Ancestry
-pub mod Declared
-pub mod Searches
-pub mod Owners
-pub mod Naming
-pub mod Resolved
-pub mod Members
-pub mod Programs
-pub mod Laws

@@ -1,5 +1,0 @@
-use Rattle.cc_meaning_verify.proofs.Standing.{laid_out_stands}
-use Rattle.cc_meaning_verify.proofs.law_laid_out.Goals as goal
-
-pub returns : goal.returns
-returns c = laid_out_stands

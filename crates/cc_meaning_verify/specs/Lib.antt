@@ -1,4 +1,0 @@
-pub mod Tries
-pub mod Faults
-pub mod Ending
-pub mod Laws

@@ -1,0 +1,10 @@
+pub mod World
+pub mod Sorts
+pub mod Layouts
+pub mod Casts
+pub mod Changes
+pub mod Scripts
+pub mod Recorded
+pub mod Acts
+pub mod Throwing
+pub mod Opening

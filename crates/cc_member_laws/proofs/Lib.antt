@@ -1,9 +1,0 @@
-pub mod Parts
-pub mod Sizes
-pub mod CodeItems
-pub mod Ordered
-pub mod Following
-pub mod MemberLists
-pub mod Members
-pub mod Handlers
-pub mod Tries

@@ -1,5 +1,0 @@
-pub mod Climbing
-pub mod Defining
-pub mod Leading
-pub mod Numbering
-pub mod Tables

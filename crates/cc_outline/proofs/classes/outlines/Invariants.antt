@@ -1,5 +1,0 @@
-use Rattle.cc_outline.specs.Numbers.{AreFirstOutlines}
-use Rattle.cc_outline.proofs.classes.outlines.Given as goal
-
-abbrev pub invariant-loop-name : goal.invariant-loop-name
-invariant-loop-name l = AreFirstOutlines l.ids l.names l.name-index l.outlines

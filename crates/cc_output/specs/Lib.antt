@@ -1,0 +1,5 @@
+pub mod Carrying
+pub mod Shown
+pub mod Lines
+pub mod Travel
+pub mod Faults

@@ -1,8 +1,0 @@
-use Rattle.std.proofs.Common.{◌↔◌}
-use Rattle.std.specs.Prelude.{Contains}
-use Rattle.cc_meaning_linking.specs.declared.plan.MethodPlan.{MethodPlan}
-use Rattle.cc_plans.specs.Candidates.{IsOwnBelow}
-use Rattle.cc_plans.proofs.tables.Tables.own_methods.Given as goal
-
-abbrev pub invariant-loop-owner : goal.invariant-loop-owner
-invariant-loop-owner l = (plan : MethodPlan) → Contains l.all plan ↔ IsOwnBelow l.self.names.ids.now l.self.classes.now l.self.names.classes.now l.owner plan

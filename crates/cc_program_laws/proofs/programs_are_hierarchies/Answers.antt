@@ -1,5 +1,0 @@
-use Rattle.cc_program_laws.proofs.Hierarchy.{hierarchy}
-use Rattle.cc_program_laws.proofs.programs_are_hierarchies.Goals as goal
-
-pub returns : goal.returns
-returns c = hierarchy

@@ -1,0 +1,150 @@
+//! Outside exceptions: each is thrown and caught, and only what is below it fits it.
+
+use cc_check::{CheckFault, Summary, check_bytes};
+use cc_meaning::fault::VerifyFault;
+use cc_meaning::instruction::How;
+use cc_meaning::lists::Bytes;
+use cc_test_programs::{
+    AssemblyFault, Member, ProgramClass, ProgramCode, ProgramMethod, ProgramTry, Step, build,
+};
+use std::alloc::Global;
+use std::test::Fail;
+
+/// Access flags.
+const PUBLIC: u32 = 0x1;
+
+const PUBLIC_STATIC: u32 = 0x9;
+
+/// A class that the file doesn't define, and whose name is that of an exception.
+const FOO: &str = "Lx/FooException;";
+
+const MAKE_FOO: Member<'static> = Member {
+    class: FOO,
+    name: "<init>",
+    ty: "()V",
+};
+
+const TAKE_FOO: Member<'static> = Member {
+    class: "LA;",
+    name: "take",
+    ty: "(Lx/FooException;)V",
+};
+
+/// `throw v0` and `move-exception v0`.
+const THROW: [u16; 1] = [0x0027];
+
+const MOVE_EXCEPTION: [u16; 1] = [0x000d];
+
+/// The labels: what is tried begins and ends, and the handler.
+const BEGIN: usize = 0;
+
+const END: usize = 1;
+
+const CAUGHT: usize = 2;
+
+/// Makes an exception, throws it and catches it.
+const THROWS: ProgramCode<'static> = ProgramCode {
+    registers: 2,
+    labels: 3,
+    steps: &[
+        Step::Place(BEGIN),
+        Step::New(0, FOO),
+        Step::Invoke(How::Direct, &[0], MAKE_FOO),
+        Step::Units(&THROW),
+        Step::Place(END),
+        Step::Place(CAUGHT),
+        Step::Units(&MOVE_EXCEPTION),
+        Step::ReturnVoid,
+    ],
+    tries: &[ProgramTry {
+        start: BEGIN,
+        end: END,
+        handlers: &[(FOO, CAUGHT)],
+    }],
+};
+
+const fn code<'a>(steps: &'a [Step<'a>]) -> ProgramCode<'a> {
+    ProgramCode {
+        registers: 2,
+        labels: 0,
+        steps,
+        tries: &[],
+    }
+}
+
+/// Hands a text to a method that takes an exception.
+const HANDS_A_TEXT: [Step<'static>; 3] = [
+    Step::Text(0, "t"),
+    Step::Invoke(How::Static, &[0], TAKE_FOO),
+    Step::ReturnVoid,
+];
+
+/// Hands an exception to it.
+const HANDS_AN_EXCEPTION: [Step<'static>; 4] = [
+    Step::New(0, FOO),
+    Step::Invoke(How::Direct, &[0], MAKE_FOO),
+    Step::Invoke(How::Static, &[0], TAKE_FOO),
+    Step::ReturnVoid,
+];
+
+/// A file of class A, with this `main` and with a method that takes an exception.
+fn file(alloc: Global, main: ProgramCode<'_>) -> Result<Bytes, AssemblyFault> {
+    let methods = [
+        ProgramMethod {
+            name: "main",
+            proto: "([Ljava/lang/String;)V",
+            flags: PUBLIC_STATIC,
+            code: Some(main),
+        },
+        ProgramMethod {
+            name: "take",
+            proto: "(Lx/FooException;)V",
+            flags: PUBLIC_STATIC,
+            code: Some(code(&[Step::ReturnVoid])),
+        },
+    ];
+    let class = ProgramClass {
+        name: "LA;",
+        flags: PUBLIC,
+        interfaces: &[],
+        fields: &[],
+        methods: &methods,
+    };
+    let builder = build(alloc, &[class])?;
+    let bytes = builder.finish()?;
+    Ok(bytes)
+}
+
+#[test]
+fn passes_a_throw(rt: HostRuntime) -> Result<(), Fail> {
+    let alloc = rt.alloc();
+    let file = file(alloc, THROWS)?;
+    let found = Summary {
+        classes: 1,
+        methods: 2,
+        units: 9,
+    };
+    assert_eq!(rt; check_bytes(alloc, file.as_slice(), None)?, found);
+    Ok(())
+}
+
+#[test]
+fn passes_an_exception_as_argument(rt: HostRuntime) -> Result<(), Fail> {
+    let alloc = rt.alloc();
+    let file = file(alloc, code(&HANDS_AN_EXCEPTION))?;
+    assert!(rt; check_bytes(alloc, file.as_slice(), None).is_ok());
+    Ok(())
+}
+
+/// `const-string` has two units, so the call stands at 2.
+#[test]
+fn refuses_a_text_as_argument(rt: HostRuntime) -> Result<(), Fail> {
+    let alloc = rt.alloc();
+    let file = file(alloc, code(&HANDS_A_TEXT))?;
+    let found = check_bytes(alloc, file.as_slice(), None);
+    let Err(CheckFault::Verify { fault, .. }) = found else {
+        return Err("verified")?;
+    };
+    assert!(rt; matches!(fault, VerifyFault::IllTyped { pc: 2, .. }));
+    Ok(())
+}

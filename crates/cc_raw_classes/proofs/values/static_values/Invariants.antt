@@ -1,5 +1,0 @@
-use Rattle.cc_raw_classes.proofs.SaidValues.{AreKept}
-use Rattle.cc_raw_classes.proofs.values.static_values.Given as goal
-
-abbrev pub invariant-loop-field : goal.invariant-loop-field
-invariant-loop-field l = AreKept l.fields l.field-index l.values l.said

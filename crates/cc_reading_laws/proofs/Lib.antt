@@ -1,2 +1,0 @@
-mod FirstCauses
-mod FirstFaults

@@ -1,0 +1,2 @@
+pub mod Matches
+mod Showing

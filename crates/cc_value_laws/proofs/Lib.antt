@@ -1,4 +1,0 @@
-mod Numbers
-mod Fields
-mod Values
-mod Following

@@ -1,3 +1,0 @@
-pub mod Line
-pub mod Chain
-pub mod Single

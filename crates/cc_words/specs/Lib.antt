@@ -1,5 +1,0 @@
-pub mod Texts
-pub mod Given
-pub mod Calls
-pub mod Ends
-pub mod CheckLine

@@ -1,6 +1,0 @@
-pub mod Parts
-pub mod Widths
-pub mod Lebs
-pub mod Signed
-pub mod Written
-pub mod Fitted

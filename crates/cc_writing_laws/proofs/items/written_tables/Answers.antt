@@ -1,5 +1,0 @@
-use Rattle.cc_writing_laws.proofs.Fitted as fitted
-use Rattle.cc_writing_laws.proofs.items.written_tables.Goals as goal
-
-pub returns : goal.returns
-returns c = fitted.written_tables c.well_formed_files.ensures

@@ -1,5 +1,0 @@
-use Rattle.cc_writing_laws.proofs.Written as written
-use Rattle.cc_writing_laws.proofs.items.written_text.Goals as goal
-
-pub returns : goal.returns
-returns c = written.written_text

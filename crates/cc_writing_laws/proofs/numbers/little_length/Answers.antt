@@ -1,5 +1,0 @@
-use Rattle.cc_writing_laws.proofs.Widths as widths
-use Rattle.cc_writing_laws.proofs.numbers.little_length.Goals as goal
-
-pub returns : goal.returns
-returns c = widths.little_length

@@ -1,5 +1,0 @@
-use Rattle.cc_writing_laws.proofs.Signed as slebs
-use Rattle.cc_writing_laws.proofs.numbers.sleb_length.Goals as goal
-
-pub returns : goal.returns
-returns c = slebs.sleb_length

@@ -1,5 +1,0 @@
-use Rattle.cc_writing_laws.proofs.Written as written
-use Rattle.cc_writing_laws.proofs.numbers.units_length.Goals as goal
-
-pub returns : goal.returns
-returns c = written.units_length

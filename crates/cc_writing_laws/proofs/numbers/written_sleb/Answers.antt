@@ -1,5 +1,0 @@
-use Rattle.cc_writing_laws.proofs.Signed as slebs
-use Rattle.cc_writing_laws.proofs.numbers.written_sleb.Goals as goal
-
-pub returns : goal.returns
-returns c = slebs.written_sleb

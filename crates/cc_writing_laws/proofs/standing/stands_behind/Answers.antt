@@ -1,5 +1,0 @@
-use Rattle.cc_writing_laws.proofs.Parts as parts
-use Rattle.cc_writing_laws.proofs.standing.stands_behind.Goals as goal
-
-pub returns : goal.returns
-returns c = parts.stands_behind
