@@ -5,15 +5,10 @@ use cc_meaning::fault::VerifyFault;
 use cc_meaning::instruction::How;
 use cc_meaning::lists::Bytes;
 use cc_test_programs::{
-    AssemblyFault, Member, ProgramClass, ProgramCode, ProgramMethod, ProgramTry, Step, build,
+    AssemblyFault, Member, ProgramCode, ProgramTry, Step, build, class_of, code, function, main_of,
 };
 use std::alloc::Global;
 use std::test::Fail;
-
-/// Access flags.
-const PUBLIC: u32 = 0x1;
-
-const PUBLIC_STATIC: u32 = 0x9;
 
 /// A class that the file doesn't define, and whose name is that of an exception.
 const FOO: &str = "Lx/FooException;";
@@ -63,15 +58,6 @@ const THROWS: ProgramCode<'static> = ProgramCode {
     }],
 };
 
-const fn code<'a>(steps: &'a [Step<'a>]) -> ProgramCode<'a> {
-    ProgramCode {
-        registers: 2,
-        labels: 0,
-        steps,
-        tries: &[],
-    }
-}
-
 /// Hands a text to a method that takes an exception.
 const HANDS_A_TEXT: [Step<'static>; 3] = [
     Step::Text(0, "t"),
@@ -87,29 +73,23 @@ const HANDS_AN_EXCEPTION: [Step<'static>; 4] = [
     Step::ReturnVoid,
 ];
 
+/// A method that takes an exception.
+const TAKE: ProgramCode<'static> = ProgramCode {
+    registers: 2,
+    labels: 0,
+    steps: &[Step::ReturnVoid],
+    tries: &[],
+};
+
 /// A file of class A, with this `main` and with a method that takes an exception.
-fn file(alloc: Global, main: ProgramCode<'_>) -> Result<Bytes, AssemblyFault> {
-    let methods = [
-        ProgramMethod {
-            name: "main",
-            proto: "([Ljava/lang/String;)V",
-            flags: PUBLIC_STATIC,
-            code: Some(main),
-        },
-        ProgramMethod {
-            name: "take",
-            proto: "(Lx/FooException;)V",
-            flags: PUBLIC_STATIC,
-            code: Some(code(&[Step::ReturnVoid])),
-        },
-    ];
-    let class = ProgramClass {
-        name: "LA;",
-        flags: PUBLIC,
-        interfaces: &[],
-        fields: &[],
-        methods: &methods,
-    };
+fn file<'a>(
+    alloc: Global,
+    main: ProgramCode<'a>,
+    take: ProgramCode<'a>,
+) -> Result<Bytes, AssemblyFault> {
+    let take = function("take", "(Lx/FooException;)V", take);
+    let methods = [main_of(main), take];
+    let class = class_of("LA;", &methods);
     let builder = build(alloc, &[class])?;
     let bytes = builder.finish()?;
     Ok(bytes)
@@ -118,7 +98,7 @@ fn file(alloc: Global, main: ProgramCode<'_>) -> Result<Bytes, AssemblyFault> {
 #[test]
 fn passes_a_throw(rt: HostRuntime) -> Result<(), Fail> {
     let alloc = rt.alloc();
-    let file = file(alloc, THROWS)?;
+    let file = file(alloc, THROWS, TAKE)?;
     let found = Summary {
         classes: 1,
         methods: 2,
@@ -131,7 +111,7 @@ fn passes_a_throw(rt: HostRuntime) -> Result<(), Fail> {
 #[test]
 fn passes_an_exception_as_argument(rt: HostRuntime) -> Result<(), Fail> {
     let alloc = rt.alloc();
-    let file = file(alloc, code(&HANDS_AN_EXCEPTION))?;
+    let file = file(alloc, code(2, 0, &HANDS_AN_EXCEPTION), TAKE)?;
     assert!(rt; check_bytes(alloc, file.as_slice(), None).is_ok());
     Ok(())
 }
@@ -140,7 +120,7 @@ fn passes_an_exception_as_argument(rt: HostRuntime) -> Result<(), Fail> {
 #[test]
 fn refuses_a_text_as_argument(rt: HostRuntime) -> Result<(), Fail> {
     let alloc = rt.alloc();
-    let file = file(alloc, code(&HANDS_A_TEXT))?;
+    let file = file(alloc, code(2, 0, &HANDS_A_TEXT), TAKE)?;
     let found = check_bytes(alloc, file.as_slice(), None);
     let Err(CheckFault::Verify { fault, .. }) = found else {
         return Err("verified")?;
