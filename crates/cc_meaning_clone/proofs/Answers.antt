@@ -15,7 +15,7 @@ use Rattle.cc_meaning.specs.BuiltIn.{object_name, string_name, string_builder_na
 use Rattle.cc_meaning_run.specs.World.{World, Stack}
 use Rattle.cc_meaning_run.specs.Acts.{less_by}
 use Rattle.cc_meaning_run.specs.Eval.{Ran, ran, with_instructions, eval_with, body}
-use Rattle.cc_meaning_run.specs.BuiltInMethods.{built_in_tables}
+use Rattle.cc_built_in.specs.BuiltInMethods.{built_in_tables}
 use Rattle.cc_meaning_run.specs.Local.{opening_static}
 use Rattle.cc_meaning_images.specs.Spelling.{spelled_back}
 use Rattle.cc_meaning_images.specs.Capture.{file_statuses, sent_statics, sent_calls, back_image}

@@ -3,7 +3,7 @@ use Rattle.std.proofs.Common.{◌≡◌, ℕ, suc, ◌+◌, ◌^◌, ◌<◌, �
 use Rattle.std.proofs.lemmas.List.{length-append}
 use Rattle.std.proofs.lemmas.List.Sorted.{length_permutation}
 use Rattle.std.proofs.lemmas.Option.{slice_get_within}
-use Rattle.cc_meaning_run.specs.BuiltInMethods.{BuiltInMethods, is_before, built_in_tables, print_stream_methods, object_methods, string_methods, string_builder_methods, message_methods, methods_before}
+use Rattle.cc_built_in.specs.BuiltInMethods.{BuiltInMethods, is_before, built_in_tables, print_stream_methods, object_methods, string_methods, string_builder_methods, message_methods, methods_before}
 use Rattle.cc_meaning_plain.specs.declared.plain.Member.{Member}
 use Rattle.cc_meaning_plain.specs.declared.plain.PlainFunction.{PlainFunction}
 use Rattle.cc_meaning_plain.specs.declared.plain.Plain.{Plain}

@@ -11,7 +11,7 @@ use Rattle.std.proofs.lemmas.Option.{slice_get_within, get_or_from_slice_get}
 use Rattle.std.proofs.lemmas.Slice.Eq.{bytes_eq-Decides}
 use Rattle.cc_meaning.specs.declared.instruction.Kind.{Kind}
 use Rattle.cc_meaning.specs.declared.value.Value.TheVariants as value
-use Rattle.cc_meaning_run.specs.BuiltInMethods.{BuiltInMethods, built_in_tables, methods_before, is_before, print_stream_methods, object_methods, string_methods, string_builder_methods, message_methods}
+use Rattle.cc_built_in.specs.BuiltInMethods.{BuiltInMethods, built_in_tables, methods_before, is_before, print_stream_methods, object_methods, string_methods, string_builder_methods, message_methods}
 use Rattle.cc_meaning_run.specs.Instructions.{code_of_kind}
 use Rattle.cc_meaning_images.specs.Spelling.{spelled_run}
 use Rattle.cc_meaning_images.specs.Reading.{runnable, runnable_if, runnable_method}

@@ -5,7 +5,7 @@ use Rattle.std.specs.Char.{encode_utf8}
 use Rattle.std.specs.Char.Utf16.{utf16_chars}
 use Rattle.cc_meaning.specs.BuiltIn.{object_name, string_name, string_builder_name, system_name, print_stream_name, throwable_name, exception_name, error_name, runtime_exception_name, arithmetic_exception_name, null_pointer_exception_name, array_store_exception_name, class_cast_exception_name, index_out_of_bounds_exception_name, negative_array_size_exception_name, illegal_argument_exception_name, illegal_state_exception_name, array_index_out_of_bounds_exception_name, string_index_out_of_bounds_exception_name, linkage_error_name, virtual_machine_error_name, no_class_def_found_error_name, exception_in_initializer_error_name, incompatible_class_change_error_name, abstract_method_error_name, stack_overflow_error_name, system_out_name}
 use Rattle.cc_meaning_run.specs.Acts.{less_by, with_words, pay, with_object, with_event, found, noted, run_act}
-use Rattle.cc_meaning_run.specs.BuiltInMethods.{built_in_tables, built_in_methods, print_stream_methods, object_methods, string_methods, string_builder_methods, message_methods, methods_before}
+use Rattle.cc_built_in.specs.BuiltInMethods.{built_in_tables, built_in_methods, print_stream_methods, object_methods, string_methods, string_builder_methods, message_methods, methods_before}
 use Rattle.cc_meaning_run.specs.Instructions.{on_cell, on_value, on_int, on_object, on_values, on_pending, set_next, println_if, built_in, line_of, on_stream, print_line, call_built_in, call_kind, call, call_named, if_started, enter_static, call_static, call_static_named, act_of, code_of_kind, code_of_method, code_of, placed_in, act_placed, act_at}
 use Rattle.cc_meaning_run.specs.Eval.{cells_of, registers_in, unset_in, locals_for, deeper, has_room, resume, body_if, body, replied, after, with_instructions, turn_in, turn, eval_with}
 use Rattle.cc_meaning_run.specs.Invocations.{place_at, entered, counted, charged, onlooker}

@@ -5,7 +5,7 @@ use Rattle.std.proofs.lemmas.Bool.Decides.{nat_tests}
 use Rattle.cc_meaning.specs.declared.program.Code.{Code}
 use Rattle.cc_meaning.specs.declared.program.Method.{Method}
 use Rattle.cc_meaning_run.specs.Instructions.{code_of_kind}
-use Rattle.cc_meaning_run.specs.BuiltInMethods.{BuiltInMethod, built_in_methods}
+use Rattle.cc_built_in.specs.BuiltInMethods.{BuiltInMethod, built_in_methods}
 use Rattle.cc_meaning_plain.specs.declared.plain.PlainFunction.{PlainFunction}
 use Rattle.cc_meaning_plain.specs.declared.plain.Plain.{Plain}
 use Rattle.cc_meaning_plain.specs.Program.{splice, shifted, before_main, first_method, main_number, function_number, built_in_of, main_of, function_of, methods_of_file, clone_of, methods_of, program_of}

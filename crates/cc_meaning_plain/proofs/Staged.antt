@@ -14,7 +14,7 @@ use Rattle.cc_meaning.specs.declared.program.Method.{Method}
 use Rattle.cc_meaning.specs.BuiltIn.{object_name, string_name, string_builder_name, system_name, print_stream_name, throwable_name, exception_name, error_name, runtime_exception_name, arithmetic_exception_name, null_pointer_exception_name, array_store_exception_name, class_cast_exception_name, index_out_of_bounds_exception_name, negative_array_size_exception_name, illegal_argument_exception_name, illegal_state_exception_name, array_index_out_of_bounds_exception_name, string_index_out_of_bounds_exception_name, linkage_error_name, virtual_machine_error_name, no_class_def_found_error_name, exception_in_initializer_error_name, incompatible_class_change_error_name, abstract_method_error_name, stack_overflow_error_name, system_out_name}
 use Rattle.cc_meaning_run.specs.World.{World, Stack, Locals}
 use Rattle.cc_meaning_run.specs.Acts.{less_by, with_words, pay, with_object, with_event, run_act}
-use Rattle.cc_meaning_run.specs.BuiltInMethods.{built_in_tables}
+use Rattle.cc_built_in.specs.BuiltInMethods.{built_in_tables}
 use Rattle.cc_meaning_run.specs.Instructions.{line_of, code_of_kind, code_of_method, code_of as code_in}
 use Rattle.cc_meaning_run.specs.Eval.{End, Returned, Stopped, Ran, ran, cells_of, body, resume, replied, after, with_instructions, turn_in, eval_with}
 use Rattle.cc_meaning_run.specs.Invocations.{Invocations, charged, entered, onlooker}

@@ -20,7 +20,7 @@ use Rattle.cc_meaning.specs.declared.instruction.MethodRef.TheVariants as ref
 use Rattle.cc_meaning.specs.declared.instruction.Insn.{Insn}
 use Rattle.cc_meaning.specs.declared.instruction.Insn.TheVariants as insn
 use Rattle.cc_meaning.specs.BuiltIn.{object_name, string_name, print_stream_name}
-use Rattle.cc_meaning_run.specs.BuiltInMethods.{BuiltInMethod, BuiltInMethods, built_in_tables, built_in_methods, is_before, methods_before}
+use Rattle.cc_built_in.specs.BuiltInMethods.{BuiltInMethod, BuiltInMethods, built_in_tables, built_in_methods, is_before, methods_before}
 use Rattle.cc_meaning_run.specs.World.{Setting}
 use Rattle.cc_meaning_plain.specs.declared.plain.PlainInsn.{PlainInsn}
 use Rattle.cc_meaning_plain.specs.declared.plain.PlainInsn.TheVariants.{SgetOut, Const4, AddInt2Addr, AddIntLit8, InvokePrintln, CallFunction}

@@ -16,7 +16,7 @@ use Rattle.cc_meaning.specs.declared.program.MethodKind.{MethodKind}
 use Rattle.cc_meaning.specs.declared.program.Placed.{Placed}
 use Rattle.cc_meaning.specs.declared.program.Program.{Program}
 use Rattle.cc_meaning.specs.BuiltIn.{print_stream_name}
-use Rattle.cc_meaning_run.specs.BuiltInMethods.{BuiltInMethod}
+use Rattle.cc_built_in.specs.BuiltInMethods.{BuiltInMethod}
 use Rattle.cc_meaning_dex.specs.CodeItems.{has_flag}
 use Rattle.cc_meaning_program.specs.declared.reference.Reference.TheVariants as reference
 use Rattle.cc_meaning_program.specs.Instructions.{OneReading}

@@ -25,7 +25,7 @@ use Rattle.cc_meaning.specs.declared.program.Placed.{Placed}
 use Rattle.cc_meaning.specs.declared.program.Program.{Program}
 use Rattle.cc_meaning.specs.declared.program.Try.{Try}
 use Rattle.cc_meaning.specs.BuiltIn.{system_name, out_name, print_stream_name}
-use Rattle.cc_meaning_run.specs.BuiltInMethods.{BuiltInMethod}
+use Rattle.cc_built_in.specs.BuiltInMethods.{BuiltInMethod}
 use Rattle.cc_meaning_dex.specs.CodeItems.{has_flag}
 use Rattle.cc_meaning_program.specs.ClassNames.{IsClassName}
 use Rattle.cc_meaning_program.specs.Instructions.{AreInstructions}

@@ -10,7 +10,7 @@ use Rattle.cc_meaning.specs.declared.file.RawMethod.{RawMethod}
 use Rattle.cc_meaning.specs.declared.program.ClassKind.{ClassKind}
 use Rattle.cc_meaning.specs.declared.program.ClassKind.TheVariants as kind
 use Rattle.cc_meaning.specs.BuiltIn.{object_name}
-use Rattle.cc_meaning_run.specs.BuiltInMethods.{BuiltInMethod, BuiltInMethods, built_in_method, built_in_tables}
+use Rattle.cc_built_in.specs.BuiltInMethods.{BuiltInMethod, BuiltInMethods, built_in_method, built_in_tables}
 use Rattle.cc_meaning_program.specs.Named.{type_name, field_member, method_member}
 use Rattle.cc_meaning_program.specs.Ancestry.{kind_of_class}
 
@@ -38,20 +38,8 @@ field_defined ids classes class member = field_among ids member (members_of ids 
 
 -- ---- built-in members
 
--- a built-in method's name within its class
-unfoldable pub built_in_member : BuiltInMethod → List ℕ
-built_in_member method = method.name ++ codes "(" ++ flat_map (λ (type : List ℕ). type) method.params ++ codes ")" ++ method.result
-
-unfoldable pub methods_of_table : Option BuiltInMethods → List BuiltInMethod
-methods_of_table None = []
-methods_of_table (Some table) = table.methods
-
--- each array has a copy of itself made
-unfoldable pub array_methods : List ℕ → List BuiltInMethod
-array_methods class = built_in_method class (codes "clone") [] object_name ∷ []
-
 unfoldable pub built_in_by_kind : ClassKind → List ℕ → List BuiltInMethod
-built_in_by_kind kind.BuiltIn class = methods_of_table (find (λ (table : BuiltInMethods). bytes_eq table.class class) built_in_tables)
+built_in_by_kind kind.BuiltIn class = methods_of_class class
 built_in_by_kind kind.Array class = array_methods class
 built_in_by_kind _ class = []
 

@@ -5,7 +5,7 @@ use Rattle.cc_meaning.specs.declared.file.RawClass.{RawClass}
 use Rattle.cc_meaning.specs.declared.file.RawField.{RawField}
 use Rattle.cc_meaning.specs.declared.file.RawMethod.{RawMethod}
 use Rattle.cc_meaning_program.specs.Named.{field_member, method_member}
-use Rattle.cc_meaning_run.specs.BuiltInMethods.{BuiltInMethod}
+use Rattle.cc_built_in.specs.BuiltInMethods.{BuiltInMethod}
 use Rattle.cc_meaning_program.specs.OwnMembers.{members_of, method_defined, field_defined, method_listed, built_in_methods_of}
 use Rattle.cc_meaning_program.specs.Naming.{RowNamesMethod, RowNamesField}
 use Rattle.cc_meaning_program.specs.declared.owner.MethodOwner.{MethodOwner}

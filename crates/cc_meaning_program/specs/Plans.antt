@@ -6,9 +6,9 @@ use Rattle.cc_meaning.specs.declared.file.RawField.{RawField}
 use Rattle.cc_meaning.specs.declared.file.RawMethod.{RawMethod}
 use Rattle.cc_meaning.specs.BuiltIn.{system_name}
 use Rattle.cc_meaning.specs.Order.{IsRising}
-use Rattle.cc_meaning_run.specs.BuiltInMethods.{BuiltInMethod}
+use Rattle.cc_built_in.specs.BuiltInMethods.{BuiltInMethod, built_in_member}
 use Rattle.cc_meaning_program.specs.Named.{field_member, method_member}
-use Rattle.cc_meaning_program.specs.OwnMembers.{method_defined, field_defined, method_listed, built_in_methods_of, built_in_member}
+use Rattle.cc_meaning_program.specs.OwnMembers.{method_defined, field_defined, method_listed, built_in_methods_of}
 use Rattle.cc_meaning_program.specs.Members.{BelongsMethod, BelongsField, out_member}
 use Rattle.cc_meaning_program.specs.Naming.{RowNamesMethod, RowNamesField}
 use Rattle.cc_meaning_program.specs.Resolved.{whole_name}

@@ -5,4 +5,3 @@ pub mod Eval
 pub mod Invocations
 pub mod Local
 pub mod Laws
-pub mod BuiltInMethods

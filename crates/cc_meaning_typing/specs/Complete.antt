@@ -26,7 +26,7 @@ use Rattle.cc_meaning.specs.BuiltIn.{is_built_in, built_in_superclass, object_na
 use Rattle.cc_meaning.specs.Lookup.{class_named}
 use Rattle.cc_meaning.specs.Names.{class_name, descriptor, result_descriptor}
 use Rattle.cc_meaning.specs.Order.{IsInOrder}
-use Rattle.cc_meaning_run.specs.BuiltInMethods.{BuiltInMethod, BuiltInMethods, built_in_method, built_in_tables}
+use Rattle.cc_built_in.specs.BuiltInMethods.{BuiltInMethod, BuiltInMethods, built_in_method, built_in_tables}
 use Rattle.cc_meaning_typing.specs.WellFormed.{IsWellFormed}
 
 -- ---- numbers

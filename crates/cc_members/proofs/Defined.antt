@@ -19,9 +19,9 @@ use Rattle.cc_meaning_program.specs.ClassFaults.{AreSound, IsDuplicate}
 use Rattle.cc_meaning_program.specs.ClassNames.{IsClassName}
 use Rattle.cc_meaning_program.specs.Definitions.{Defines}
 use Rattle.cc_meaning_program.specs.Named.{type_name, method_member, field_member}
-use Rattle.cc_meaning_run.specs.BuiltInMethods.{BuiltInMethod, BuiltInMethods, built_in_tables, print_stream_methods, object_methods, string_methods, string_builder_methods, message_methods}
+use Rattle.cc_built_in.specs.BuiltInMethods.{BuiltInMethod, BuiltInMethods, built_in_tables, print_stream_methods, object_methods, string_methods, string_builder_methods, message_methods, built_in_member, methods_of_table, array_methods}
 use Rattle.cc_meaning_program.specs.Ancestry.{kind_of_class, outside_kind, is_exception, is_error, is_defined, definition_of}
-use Rattle.cc_meaning_program.specs.OwnMembers.{members_of, method_among, method_defined, method_listed, field_among, field_defined, built_in_member, built_in_by_kind, built_in_methods_of, methods_of_table, array_methods}
+use Rattle.cc_meaning_program.specs.OwnMembers.{members_of, method_among, method_defined, method_listed, field_among, field_defined, built_in_by_kind, built_in_methods_of}
 use Rattle.cc_meaning_program.specs.OwnerNumbers.{method_in, method_placed, field_in, field_placed}
 use Rattle.cc_meaning_program.specs.Rows.{FitTables}
 

@@ -15,9 +15,9 @@ use Rattle.cc_meaning.specs.BuiltIn.{built_in_classes, built_in_plain_classes, b
 use Rattle.cc_meaning_dex.specs.Descriptors.{names_class}
 use Rattle.cc_meaning_program.specs.ClassNames.{AreClassNames, IsClassName}
 use Rattle.cc_meaning_program.specs.TypeNames.{base_spelled, type_spelled}
-use Rattle.cc_meaning_program.specs.OwnMembers.{built_in_member, methods_of_table, array_methods, built_in_by_kind, is_constructor}
+use Rattle.cc_meaning_program.specs.OwnMembers.{built_in_by_kind, is_constructor}
 use Rattle.cc_meaning_program.specs.Members.{ResultSpelled}
-use Rattle.cc_meaning_run.specs.BuiltInMethods.{BuiltInMethod, BuiltInMethods, built_in_tables, print_stream_methods, object_methods, string_methods, string_builder_methods, message_methods}
+use Rattle.cc_built_in.specs.BuiltInMethods.{BuiltInMethod, BuiltInMethods, built_in_tables, print_stream_methods, object_methods, string_methods, string_builder_methods, message_methods, built_in_member, methods_of_table, array_methods}
 use Rattle.cc_members.specs.MadeMethods.{IsSpelled, ListedStands}
 
 -- ---- tests

@@ -8,8 +8,8 @@ use Rattle.std.specs.Str.{bytes_eq}
 use Rattle.std.proofs.lemmas.Slice.Eq.{bytes_eq-Decides}
 use Rattle.cc_meaning.specs.declared.program.ClassKind.{ClassKind}
 use Rattle.cc_meaning.specs.declared.program.ClassKind.TheVariants as kinds
-use Rattle.cc_meaning_run.specs.BuiltInMethods.{BuiltInMethods}
-use Rattle.cc_meaning_program.specs.OwnMembers.{methods_of_table, built_in_by_kind}
+use Rattle.cc_built_in.specs.BuiltInMethods.{BuiltInMethods, methods_of_table}
+use Rattle.cc_meaning_program.specs.OwnMembers.{built_in_by_kind}
 use Rattle.cc_members.specs.Listed.{listed_in, table_of, methods_in_tables}
 use Rattle.cc_members.specs.declared.made_built_in.Listed.{Listed}
 use Rattle.cc_members.specs.declared.made_built_in.Table.{Table}

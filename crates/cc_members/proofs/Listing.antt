@@ -10,8 +10,8 @@ use Rattle.std.proofs.lemmas.List.Sums.{position_or_len_is}
 use Rattle.std.proofs.lemmas.Option.{slice_get_past, slice_get-get_or}
 use Rattle.cc_meaning.specs.declared.program.ClassKind.{ClassKind}
 use Rattle.cc_meaning.specs.declared.program.ClassKind.TheVariants as kind
-use Rattle.cc_meaning_run.specs.BuiltInMethods.{BuiltInMethods, built_in_tables}
-use Rattle.cc_meaning_program.specs.OwnMembers.{built_in_member, methods_of_table, array_methods, built_in_by_kind}
+use Rattle.cc_built_in.specs.BuiltInMethods.{BuiltInMethods, built_in_tables, built_in_member, methods_of_table, array_methods}
+use Rattle.cc_meaning_program.specs.OwnMembers.{built_in_by_kind}
 use Rattle.cc_meaning_program.specs.Members.{out_member}
 use Rattle.cc_members.specs.ListedNames.{listed_members, listed_at}
 

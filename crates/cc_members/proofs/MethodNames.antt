@@ -11,9 +11,8 @@ use Rattle.cc_meaning.specs.declared.program.Program.{Program}
 use Rattle.cc_meaning.specs.Names.{descriptor, result_descriptor, prototype, member_name, method_name}
 use Rattle.cc_meaning_program.specs.Named.{text_of, type_name, prototype_of, method_within, method_member}
 use Rattle.cc_meaning_program.specs.TypeNames.{Spells}
-use Rattle.cc_meaning_program.specs.OwnMembers.{built_in_member}
 use Rattle.cc_meaning_program.specs.Members.{Pairs, ResultSpelled}
-use Rattle.cc_meaning_run.specs.BuiltInMethods.{BuiltInMethod}
+use Rattle.cc_built_in.specs.BuiltInMethods.{BuiltInMethod, built_in_member}
 use Rattle.cc_meaning_program.specs.Resolved.{names_of, whole_name}
 use Rattle.cc_meaning_program.specs.Plans.{name_at}
 use Rattle.cc_members.proofs.ByNumber.{class_named_at, spelled_by_names}

@@ -8,12 +8,12 @@ use Rattle.cc_meaning.specs.declared.file.Ids.{Ids}
 use Rattle.cc_meaning.specs.declared.file.RawClass.{RawClass}
 use Rattle.cc_meaning.specs.declared.file.RawMethod.{RawMethod}
 use Rattle.cc_meaning.specs.declared.program.Placed.{Placed}
-use Rattle.cc_meaning_run.specs.BuiltInMethods.{BuiltInMethod}
+use Rattle.cc_built_in.specs.BuiltInMethods.{BuiltInMethod, built_in_member}
 use Rattle.cc_meaning_program.specs.ClassFaults.{AreSound}
 use Rattle.cc_meaning_program.specs.ClassNames.{AreClassNames, IsClassName}
 use Rattle.cc_meaning_program.specs.Instructions.{OneReading}
 use Rattle.cc_meaning_program.specs.Named.{type_name, method_member}
-use Rattle.cc_meaning_program.specs.OwnMembers.{members_of, method_defined, method_listed, built_in_member, built_in_methods_of}
+use Rattle.cc_meaning_program.specs.OwnMembers.{members_of, method_defined, method_listed, built_in_methods_of}
 use Rattle.cc_meaning_program.specs.Laws.{OneMethodOwner}
 use Rattle.cc_meaning_program.specs.Members.{BelongsMethod}
 use Rattle.cc_meaning_program.specs.Owners.{MethodOwner as OwnsMethod}

@@ -22,7 +22,7 @@ use Rattle.cc_meaning_program.specs.Instructions.{StandToEnd}
 use Rattle.cc_meaning_program.specs.Named.{text_of, type_name, method_member}
 use Rattle.cc_meaning_program.specs.References.{MethodFloats}
 use Rattle.cc_meaning_program.specs.TypeNames.{Spells, ListedTypesSpelled}
-use Rattle.cc_meaning_program.specs.OwnMembers.{method_defined, method_listed, built_in_member, built_in_methods_of, built_in_by_kind, is_constructor}
+use Rattle.cc_meaning_program.specs.OwnMembers.{method_defined, method_listed, built_in_methods_of, built_in_by_kind, is_constructor}
 use Rattle.cc_meaning_program.specs.Members.{Pairs, ResultSpelled, IsNamedBy, IsMethod, is_static_call, is_virtual_call}
 use Rattle.cc_meaning_program.specs.Naming.{RowNamesMethod}
 use Rattle.cc_meaning_program.specs.Resolved.{names_of, whole_name}
@@ -36,7 +36,7 @@ use Rattle.cc_meaning_program.specs.declared.outline.Outline.{Outline}
 use Rattle.cc_meaning_program.specs.declared.plan.MethodPlan.{MethodPlan}
 use Rattle.cc_meaning_program.specs.declared.plan.MethodSource.{MethodSource}
 use Rattle.cc_meaning_program.specs.declared.uses.MethodUse.{MethodUse}
-use Rattle.cc_meaning_run.specs.BuiltInMethods.{BuiltInMethod}
+use Rattle.cc_built_in.specs.BuiltInMethods.{BuiltInMethod, built_in_member}
 use Rattle.cc_names.specs.Types.{AreTypesOf}
 use Rattle.cc_members.specs.Made.{EachMade}
 use Rattle.cc_members.specs.MadeMethods.{MethodRowStands, IsSpelled, listed_at, DefinedStands, MethodCanBeMade, MethodOfRow, MethodMade}

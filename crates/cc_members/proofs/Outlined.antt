@@ -8,8 +8,8 @@ use Rattle.cc_meaning.specs.declared.file.RawField.{RawField}
 use Rattle.cc_meaning.specs.declared.file.RawMethod.{RawMethod}
 use Rattle.cc_meaning.specs.BuiltIn.{system_name}
 use Rattle.cc_meaning_program.specs.Named.{method_member, field_member}
-use Rattle.cc_meaning_run.specs.BuiltInMethods.{BuiltInMethod, BuiltInMethods, built_in_tables}
-use Rattle.cc_meaning_program.specs.OwnMembers.{members_of, built_in_by_kind, built_in_member, built_in_methods_of}
+use Rattle.cc_built_in.specs.BuiltInMethods.{BuiltInMethod, BuiltInMethods, built_in_tables, built_in_member}
+use Rattle.cc_meaning_program.specs.OwnMembers.{members_of, built_in_by_kind, built_in_methods_of}
 use Rattle.cc_meaning_program.specs.Members.{out_member}
 use Rattle.cc_meaning_program.specs.declared.outline.Outline.{Outline}
 use Rattle.cc_meaning_program.specs.Outlines.{AreOutlines, IsOutline, definition_number}

@@ -1,8 +1,7 @@
 -- The methods that built-in classes and arrays list, as tables of the code have them.
 use Rattle.std.specs.Prelude.{ℕ, List, map, find}
 use Rattle.std.specs.Str.{bytes_eq}
-use Rattle.cc_meaning_run.specs.BuiltInMethods.{BuiltInMethod, BuiltInMethods}
-use Rattle.cc_meaning_program.specs.OwnMembers.{methods_of_table}
+use Rattle.cc_built_in.specs.BuiltInMethods.{BuiltInMethod, BuiltInMethods, methods_of_table}
 use Rattle.cc_members.specs.declared.made_built_in.Listed.{Listed}
 use Rattle.cc_members.specs.declared.made_built_in.Table.{Table}
 

@@ -1,7 +1,6 @@
 -- The names within their classes of the members that built-in classes and arrays list, and of `System.out`.
 use Rattle.std.specs.Prelude.{◌≡◌, ℕ, List, [], ◌∷◌, ◌++◌, map, Option, Some, None, slice_get, unwrap_or}
-use Rattle.cc_meaning_run.specs.BuiltInMethods.{BuiltInMethods, built_in_tables}
-use Rattle.cc_meaning_program.specs.OwnMembers.{array_methods, built_in_member}
+use Rattle.cc_built_in.specs.BuiltInMethods.{BuiltInMethods, built_in_tables, array_methods, built_in_member}
 use Rattle.cc_meaning_program.specs.Members.{out_member}
 use Rattle.cc_members.specs.declared.planned_built_in.Listings.{Listings}
 

@@ -19,9 +19,9 @@ use Rattle.cc_meaning.specs.declared.program.Program.{Program}
 use Rattle.cc_meaning_dex.specs.CodeItems.{has_flag}
 use Rattle.cc_meaning_program.specs.Named.{text_of}
 use Rattle.cc_meaning_program.specs.TypeNames.{Spells}
-use Rattle.cc_meaning_program.specs.OwnMembers.{built_in_by_kind, built_in_member, is_constructor}
+use Rattle.cc_meaning_program.specs.OwnMembers.{built_in_by_kind, is_constructor}
 use Rattle.cc_meaning_program.specs.Members.{Pairs, KindResolved, ResultSpelled, is_static_call, is_virtual_call}
-use Rattle.cc_meaning_run.specs.BuiltInMethods.{BuiltInMethod}
+use Rattle.cc_built_in.specs.BuiltInMethods.{BuiltInMethod, built_in_member}
 use Rattle.cc_meaning_program.specs.OwnerNumbers.{method_in}
 use Rattle.cc_meaning_program.specs.Plans.{name_at}
 use Rattle.cc_meaning_program.specs.declared.links.Links.{Links}

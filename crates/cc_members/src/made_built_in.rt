@@ -3,7 +3,7 @@
 ghost use Rattle.std.specs.Prelude.{◌≡◌, ◌↔◌, IsTrue, map, option_map, slice_get};
 ghost use Rattle.std.specs.Option.{option_copied};
 ghost use Rattle.cc_meaning_program.specs.OwnMembers.{built_in_by_kind};
-ghost use Rattle.cc_meaning_run.specs.BuiltInMethods.{built_in_tables};
+ghost use Rattle.cc_built_in.specs.BuiltInMethods.{built_in_tables};
 ghost use Rattle.cc_members.specs.Listed.{listed_in, table_of, methods_in_tables};
 
 use cc_meaning::program::ClassKind;
@@ -342,7 +342,7 @@ fn methods_of(class: &[u16]) -> &'static [Listed]
 }
 
 /// The methods that a class lists itself, by what the class is.
-#[tactic(auto, using(crate::proofs::ListedTables::none_listed), unfolding(crate::specs::Listed::listed_in, crate::specs::Listed::methods_in_tables, cc_meaning_program::specs::OwnMembers::built_in_by_kind, cc_meaning_program::specs::OwnMembers::array_methods, cc_meaning::specs::BuiltIn::object_name))]
+#[tactic(auto, using(crate::proofs::ListedTables::none_listed), unfolding(crate::specs::Listed::listed_in, crate::specs::Listed::methods_in_tables, cc_meaning_program::specs::OwnMembers::built_in_by_kind, cc_built_in::specs::BuiltInMethods::array_methods, cc_meaning::specs::BuiltIn::object_name))]
 fn methods_listed(kind: ClassKind, class: &[u16]) -> &'static [Listed]
     ensures { map (listed_in class.now) result.now ≡ built_in_by_kind kind class.now }
 {

@@ -1,7 +1,7 @@
 //! The methods of a program.
 
 ghost use Rattle.cc_meaning_dex.specs.CodeItems.{has_flag};
-ghost use Rattle.cc_meaning_run.specs.BuiltInMethods.{BuiltInMethod};
+ghost use Rattle.cc_built_in.specs.BuiltInMethods.{BuiltInMethod};
 ghost use Rattle.std.specs.Prelude.{◌≡◌, ◌^◌, ◌<◌, ℕ, List, Contains, length, map, slice_get, IfOk, OnOk};
 ghost use Rattle.cc_meaning.specs.Order.{IsRising};
 ghost use Rattle.cc_meaning.specs.declared.program.DexType.{DexType};

@@ -3,7 +3,8 @@
 ghost use Rattle.std.specs.Prelude.{◌≡◌, ◌<◌, ◌^◌, ℕ, List, map, length, position, IfOk};
 ghost use Rattle.std.specs.Str.{bytes_eq};
 ghost use Rattle.cc_meaning.specs.BuiltIn.{system_name};
-ghost use Rattle.cc_meaning_program.specs.OwnMembers.{built_in_by_kind, built_in_member};
+ghost use Rattle.cc_built_in.specs.BuiltInMethods.{built_in_member};
+ghost use Rattle.cc_meaning_program.specs.OwnMembers.{built_in_by_kind};
 ghost use Rattle.cc_members.specs.ListedNames.{AreListings, listed_at, listed_text};
 
 use cc_list::List;

@@ -2,7 +2,8 @@
 
 ghost use Rattle.std.specs.Prelude.{◌≡◌, ◌<◌, ◌^◌, length, map, slice_get, IfOk};
 ghost use Rattle.std.specs.Option.{option_copied};
-ghost use Rattle.cc_meaning_program.specs.OwnMembers.{members_of, built_in_member, built_in_methods_of};
+ghost use Rattle.cc_built_in.specs.BuiltInMethods.{built_in_member};
+ghost use Rattle.cc_meaning_program.specs.OwnMembers.{members_of, built_in_methods_of};
 ghost use Rattle.cc_meaning_program.specs.Plans.{name_at};
 ghost use Rattle.cc_members.specs.ListedNames.{listed_at};
 ghost use Rattle.cc_members.specs.Candidates.{AreTables};

@@ -11,12 +11,12 @@ use Rattle.cc_meaning.specs.declared.program.ClassKind.{ClassKind}
 use Rattle.cc_meaning.specs.declared.program.ClassKind.TheVariants.{File, BuiltIn, Outside, OutsideError, Array}
 use Rattle.cc_meaning.specs.BuiltIn.{is_built_in}
 use Rattle.cc_meaning_dex.specs.Descriptors.{begins_with}
-use Rattle.cc_meaning_run.specs.BuiltInMethods.{BuiltInMethod}
+use Rattle.cc_built_in.specs.BuiltInMethods.{BuiltInMethod, built_in_member, array_methods}
 use Rattle.cc_meaning_program.specs.ClassFaults.{AreSound, HasNoSuperclass, of_built_in}
 use Rattle.cc_meaning_program.specs.Definitions.{Defines}
 use Rattle.cc_meaning_program.specs.Named.{type_name}
 use Rattle.cc_meaning_program.specs.Ancestry.{definition_of, is_defined, is_exception, is_error, outside_kind, kind_of_class, stated_superclass, superclass_by_kind, superclass_named, Ancestry, top, up}
-use Rattle.cc_meaning_program.specs.OwnMembers.{built_in_member, array_methods, built_in_by_kind, built_in_methods_of, method_listed, is_constructor}
+use Rattle.cc_meaning_program.specs.OwnMembers.{built_in_by_kind, built_in_methods_of, method_listed, is_constructor}
 use Rattle.cc_meaning_program.specs.Owners.{inherits, Lists}
 use Rattle.cc_meaning_program.specs.Searches.{First, NoneOf}
 use Rattle.cc_meaning_program.specs.Outlines.{AreNumbersOf, definition_number}

@@ -8,8 +8,7 @@ use Rattle.std.proofs.lemmas.List.{length-map}
 use Rattle.std.proofs.lemmas.Option.{slice_get-get_or, slice_get-map, slice_get_within}
 use Rattle.std.proofs.lemmas.Slice.Eq.{bytes_eq-Decides}
 use Rattle.cc_meaning.specs.BuiltIn.{BuiltInClass, is_built_in, built_in_classes, built_in_plain_classes, built_in_throwables, object_name, string_name, string_builder_name, system_name, print_stream_name, throwable_name, exception_name, error_name, runtime_exception_name, arithmetic_exception_name, null_pointer_exception_name, array_store_exception_name, class_cast_exception_name, index_out_of_bounds_exception_name, negative_array_size_exception_name, illegal_argument_exception_name, illegal_state_exception_name, array_index_out_of_bounds_exception_name, string_index_out_of_bounds_exception_name, linkage_error_name, virtual_machine_error_name, no_class_def_found_error_name, exception_in_initializer_error_name, incompatible_class_change_error_name, abstract_method_error_name, stack_overflow_error_name}
-use Rattle.cc_meaning_run.specs.BuiltInMethods.{built_in_tables, print_stream_methods, object_methods, string_methods, string_builder_methods, message_methods}
-use Rattle.cc_meaning_program.specs.OwnMembers.{built_in_member, methods_of_table}
+use Rattle.cc_built_in.specs.BuiltInMethods.{built_in_tables, print_stream_methods, object_methods, string_methods, string_builder_methods, message_methods, built_in_member, methods_of_table}
 use Rattle.cc_owners.specs.Listings.{class_methods, constructors, members_by_name}
 use Rattle.cc_owners.proofs.Lists.{some_is}
 use Rattle.cc_owners.proofs.Positions.{position_is, position_none}

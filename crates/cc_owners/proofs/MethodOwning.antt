@@ -10,10 +10,10 @@ use Rattle.cc_meaning.specs.declared.file.RawClass.{RawClass}
 use Rattle.cc_meaning.specs.declared.file.RawMethod.{RawMethod}
 use Rattle.cc_meaning.specs.declared.program.ClassKind.{ClassKind}
 use Rattle.cc_meaning.specs.declared.program.ClassKind.TheVariants.{File, BuiltIn, Outside, OutsideError, Array}
-use Rattle.cc_meaning_run.specs.BuiltInMethods.{BuiltInMethod}
+use Rattle.cc_built_in.specs.BuiltInMethods.{BuiltInMethod, built_in_member}
 use Rattle.cc_meaning_program.specs.Named.{type_name, method_member}
 use Rattle.cc_meaning_program.specs.Ancestry.{kind_of_class, interfaces_named, Ancestry, Superinterfaces}
-use Rattle.cc_meaning_program.specs.OwnMembers.{members_of, method_among, method_defined, built_in_member, built_in_by_kind, built_in_methods_of, method_listed}
+use Rattle.cc_meaning_program.specs.OwnMembers.{members_of, method_among, method_defined, built_in_by_kind, built_in_methods_of, method_listed}
 use Rattle.cc_meaning_program.specs.Naming.{RowNamesMethod}
 use Rattle.cc_meaning_program.specs.Owners.{IsBeyond, DefinesMethod, inherits, Lists, MethodOwner}
 use Rattle.cc_meaning_program.specs.Searches.{First, NoneOf, MethodOrder}

@@ -3,7 +3,8 @@ use Rattle.std.specs.Prelude.{◌≡◌, ℕ, true, false, List, map, take, posi
 use Rattle.std.specs.Str.{bytes_eq}
 use Rattle.cc_meaning.specs.declared.file.Ids.{Ids}
 use Rattle.cc_meaning_program.specs.Ancestry.{is_defined, Ancestry}
-use Rattle.cc_meaning_program.specs.OwnMembers.{built_in_member, built_in_methods_of}
+use Rattle.cc_built_in.specs.BuiltInMethods.{built_in_member}
+use Rattle.cc_meaning_program.specs.OwnMembers.{built_in_methods_of}
 use Rattle.cc_meaning_program.specs.Owners.{IsBeyond, Lists}
 use Rattle.cc_meaning_program.specs.Searches.{First, NoneOf}
 use Rattle.cc_meaning_program.specs.declared.owner.MethodOwner.{MethodOwner}

@@ -2,8 +2,7 @@
 use Rattle.std.specs.Prelude.{ℕ, if◌then◌else◌, List, [], ◌∷◌, map, find, codes}
 use Rattle.std.specs.Str.{bytes_eq}
 use Rattle.cc_meaning.specs.BuiltIn.{throwable_name}
-use Rattle.cc_meaning_run.specs.BuiltInMethods.{BuiltInMethod, BuiltInMethods, constructor, text_constructor, built_in_tables, print_stream_methods, object_methods, string_methods, string_builder_methods, message_methods}
-use Rattle.cc_meaning_program.specs.OwnMembers.{built_in_member, methods_of_table}
+use Rattle.cc_built_in.specs.BuiltInMethods.{BuiltInMethod, BuiltInMethods, constructor, text_constructor, built_in_tables, print_stream_methods, object_methods, string_methods, string_builder_methods, message_methods, built_in_member, methods_of_table}
 
 -- those of a built-in class
 unfoldable pub class_methods : List ℕ → List BuiltInMethod

@@ -3,8 +3,8 @@
 ghost use Rattle.std.specs.Prelude.{◌≡◌, ◌≤◌, true, List, ℕ, map, position, length};
 ghost use Rattle.std.specs.Str.{bytes_eq};
 ghost use Rattle.cc_meaning.specs.BuiltIn.{is_built_in};
-ghost use Rattle.cc_meaning_run.specs.BuiltInMethods.{print_stream_methods, object_methods, string_methods, string_builder_methods, message_methods};
-ghost use Rattle.cc_meaning_program.specs.OwnMembers.{built_in_member, array_methods, is_constructor};
+ghost use Rattle.cc_built_in.specs.BuiltInMethods.{print_stream_methods, object_methods, string_methods, string_builder_methods, message_methods, built_in_member, array_methods};
+ghost use Rattle.cc_meaning_program.specs.OwnMembers.{is_constructor};
 ghost use Rattle.cc_owners.specs.Listings.{constructors, members_by_name, class_methods};
 
 /// Whether a text is this one of ASCII.
@@ -61,7 +61,7 @@ const ARRAY: [&[u8]; 1] = [b"clone()Ljava/lang/Object;"];
 
 const NOTHING: [&[u8]; 0] = [];
 
-#[tactic(auto, unfolding(cc_meaning_run::specs::BuiltInMethods::print_stream_methods, cc_meaning_program::specs::OwnMembers::built_in_member, cc_meaning::specs::BuiltIn::string_name))]
+#[tactic(auto, unfolding(cc_built_in::specs::BuiltInMethods::print_stream_methods, cc_built_in::specs::BuiltInMethods::built_in_member, cc_meaning::specs::BuiltIn::string_name))]
 fn print_stream() -> &'static [&'static [u8]]
     ensures members { map (λ member. member.now) result.now ≡ map built_in_member print_stream_methods }
     ensures few { length result.now ≤ 11 }
@@ -69,7 +69,7 @@ fn print_stream() -> &'static [&'static [u8]]
     &PRINT_STREAM
 }
 
-#[tactic(auto, unfolding(cc_meaning_run::specs::BuiltInMethods::object_methods, cc_meaning_program::specs::OwnMembers::built_in_member, cc_meaning::specs::BuiltIn::object_name))]
+#[tactic(auto, unfolding(cc_built_in::specs::BuiltInMethods::object_methods, cc_built_in::specs::BuiltInMethods::built_in_member, cc_meaning::specs::BuiltIn::object_name))]
 fn object() -> &'static [&'static [u8]]
     ensures members { map (λ member. member.now) result.now ≡ map built_in_member object_methods }
     ensures few { length result.now ≤ 11 }
@@ -77,7 +77,7 @@ fn object() -> &'static [&'static [u8]]
     &OBJECT
 }
 
-#[tactic(auto, unfolding(cc_meaning_run::specs::BuiltInMethods::string_methods, cc_meaning_program::specs::OwnMembers::built_in_member, cc_meaning::specs::BuiltIn::object_name))]
+#[tactic(auto, unfolding(cc_built_in::specs::BuiltInMethods::string_methods, cc_built_in::specs::BuiltInMethods::built_in_member, cc_meaning::specs::BuiltIn::object_name))]
 fn string() -> &'static [&'static [u8]]
     ensures members { map (λ member. member.now) result.now ≡ map built_in_member string_methods }
     ensures few { length result.now ≤ 11 }
@@ -85,7 +85,7 @@ fn string() -> &'static [&'static [u8]]
     &STRING
 }
 
-#[tactic(auto, unfolding(cc_meaning_run::specs::BuiltInMethods::string_builder_methods, cc_meaning_program::specs::OwnMembers::built_in_member, cc_meaning::specs::BuiltIn::string_name, cc_meaning::specs::BuiltIn::string_builder_name))]
+#[tactic(auto, unfolding(cc_built_in::specs::BuiltInMethods::string_builder_methods, cc_built_in::specs::BuiltInMethods::built_in_member, cc_meaning::specs::BuiltIn::string_name, cc_meaning::specs::BuiltIn::string_builder_name))]
 fn string_builder() -> &'static [&'static [u8]]
     ensures members { map (λ member. member.now) result.now ≡ map built_in_member string_builder_methods }
     ensures few { length result.now ≤ 11 }
@@ -93,7 +93,7 @@ fn string_builder() -> &'static [&'static [u8]]
     &STRING_BUILDER
 }
 
-#[tactic(auto, unfolding(cc_meaning_run::specs::BuiltInMethods::message_methods, cc_meaning_program::specs::OwnMembers::built_in_member, cc_meaning::specs::BuiltIn::string_name))]
+#[tactic(auto, unfolding(cc_built_in::specs::BuiltInMethods::message_methods, cc_built_in::specs::BuiltInMethods::built_in_member, cc_meaning::specs::BuiltIn::string_name))]
 fn throwable() -> &'static [&'static [u8]]
     ensures members { map (λ member. member.now) result.now ≡ map built_in_member message_methods }
     ensures few { length result.now ≤ 11 }
@@ -101,7 +101,7 @@ fn throwable() -> &'static [&'static [u8]]
     &THROWABLE
 }
 
-#[tactic(auto, unfolding(crate::specs::Listings::constructors, cc_meaning_program::specs::OwnMembers::built_in_member, cc_meaning::specs::BuiltIn::string_name))]
+#[tactic(auto, unfolding(crate::specs::Listings::constructors, cc_built_in::specs::BuiltInMethods::built_in_member, cc_meaning::specs::BuiltIn::string_name))]
 fn constructors() -> &'static [&'static [u8]]
     ensures members { map (λ member. member.now) result.now ≡ map built_in_member constructors }
     ensures few { length result.now ≤ 11 }
@@ -110,7 +110,7 @@ fn constructors() -> &'static [&'static [u8]]
 }
 
 /// What each array lists.
-#[tactic(auto, unfolding(cc_meaning_program::specs::OwnMembers::array_methods, cc_meaning_program::specs::OwnMembers::built_in_member, cc_meaning::specs::BuiltIn::object_name))]
+#[tactic(auto, unfolding(cc_built_in::specs::BuiltInMethods::array_methods, cc_built_in::specs::BuiltInMethods::built_in_member, cc_meaning::specs::BuiltIn::object_name))]
 pub(crate) fn array_members() -> &'static [&'static [u8]]
     ensures members { (name : List ℕ) → map (λ member. member.now) result.now ≡ map built_in_member (array_methods name) }
     ensures few { length result.now ≤ 11 }

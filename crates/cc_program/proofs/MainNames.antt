@@ -12,7 +12,8 @@ use Rattle.cc_meaning_dex.specs.TableLaws.{DescriptorsAgree}
 use Rattle.cc_meaning_program.specs.ClassFaults.{AreSound}
 use Rattle.cc_meaning_program.specs.ClassNames.{AreClassNames}
 use Rattle.cc_meaning_program.specs.Named.{method_member, type_name}
-use Rattle.cc_meaning_program.specs.OwnMembers.{method_defined, members_of, built_in_member}
+use Rattle.cc_built_in.specs.BuiltInMethods.{built_in_member}
+use Rattle.cc_meaning_program.specs.OwnMembers.{method_defined, members_of}
 use Rattle.cc_meaning_program.specs.Members.{BelongsMethod}
 use Rattle.cc_meaning_program.specs.Programs.{main_member}
 use Rattle.cc_meaning_program.specs.Resolved.{whole_name}

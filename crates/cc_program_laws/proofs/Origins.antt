@@ -24,7 +24,7 @@ use Rattle.cc_meaning.specs.BuiltIn.{is_built_in, exception_name, error_name}
 use Rattle.cc_meaning.specs.Kinds.{kind_of}
 use Rattle.cc_meaning.specs.Lookup.{class_named}
 use Rattle.cc_meaning.specs.Names.{class_name, name_or_none, descriptor, result_descriptor}
-use Rattle.cc_meaning_run.specs.BuiltInMethods.{BuiltInMethod, BuiltInMethods, built_in_tables}
+use Rattle.cc_built_in.specs.BuiltInMethods.{BuiltInMethod, BuiltInMethods, built_in_tables, built_in_member, methods_of_table, array_methods}
 use Rattle.cc_meaning_dex.specs.Descriptors.{begins_with}
 use Rattle.cc_meaning_dex.specs.CodeItems.{has_flag}
 use Rattle.cc_meaning_program.specs.ClassFaults.{AreSound, HasNoSuperclass, IsClosed, IsDuplicate}
@@ -33,7 +33,7 @@ use Rattle.cc_meaning_program.specs.Definitions.{is_interface}
 use Rattle.cc_meaning_program.specs.Named.{type_name}
 use Rattle.cc_meaning_program.specs.TypeNames.{Spells}
 use Rattle.cc_meaning_program.specs.Ancestry.{definition_of, is_defined, is_exception, kind_of_class, stated_superclass, superclass_by_kind, superclass_named, interfaces_named}
-use Rattle.cc_meaning_program.specs.OwnMembers.{built_in_member, built_in_by_kind, built_in_methods_of, members_of, method_among, method_defined, method_listed, methods_of_table, array_methods}
+use Rattle.cc_meaning_program.specs.OwnMembers.{built_in_by_kind, built_in_methods_of, members_of, method_among, method_defined, method_listed}
 use Rattle.cc_meaning_program.specs.Members.{IsMethod, KindResolved, Pairs, ResultSpelled}
 use Rattle.cc_meaning_program.specs.Programs.{AreValues, IsProgram, ValueIs, ValueResolved, has_class_flag, is_run, static_with_code, zero_of_field, zero_value, fields_of}
 use Rattle.cc_meaning_program.specs.Resolved.{names_of}

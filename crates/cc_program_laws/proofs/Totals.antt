@@ -19,11 +19,11 @@ use Rattle.cc_meaning.specs.declared.program.Program.{Program}
 use Rattle.cc_meaning.specs.BuiltIn.{BuiltInClass, built_in_classes, built_in_plain_classes, built_in_throwables, system_name}
 use Rattle.cc_meaning.specs.Lookup.{class_named}
 use Rattle.cc_meaning.specs.Names.{field_name, method_name}
-use Rattle.cc_meaning_run.specs.BuiltInMethods.{BuiltInMethod, BuiltInMethods, built_in_tables, print_stream_methods, object_methods, string_methods, string_builder_methods, message_methods}
+use Rattle.cc_built_in.specs.BuiltInMethods.{BuiltInMethod, BuiltInMethods, built_in_tables, print_stream_methods, object_methods, string_methods, string_builder_methods, message_methods, built_in_member, methods_of_table, array_methods}
 use Rattle.cc_meaning_dex.specs.Rows.{IsSameType}
 use Rattle.cc_meaning_program.specs.ClassNames.{IsClassName, base_name, texts_name}
 use Rattle.cc_meaning_program.specs.Named.{type_name, field_member, field_text, class_of_field, method_member, method_text, class_of_method}
-use Rattle.cc_meaning_program.specs.OwnMembers.{built_in_member, built_in_by_kind, built_in_methods_of, members_of, method_among, method_defined, field_among, field_defined, method_listed, methods_of_table, array_methods}
+use Rattle.cc_meaning_program.specs.OwnMembers.{built_in_by_kind, built_in_methods_of, members_of, method_among, method_defined, field_among, field_defined, method_listed}
 use Rattle.cc_meaning_program.specs.Ancestry.{kind_of_class}
 use Rattle.cc_meaning_program.specs.Laws.{OneMethodOwner, OneFieldOwner}
 use Rattle.cc_meaning_program.specs.Members.{BelongsMethod, BelongsField, out_member}

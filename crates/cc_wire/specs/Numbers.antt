@@ -1,7 +1,7 @@
 -- Counting the built-in methods that stand before a class by a table of names and counts.
 use Rattle.std.specs.Prelude.{ℕ, ◌+◌, cond, List, [], ◌∷◌, map}
 use Rattle.std.specs.Borrow.{Bor}
-use Rattle.cc_meaning_run.specs.BuiltInMethods.{is_before}
+use Rattle.cc_built_in.specs.BuiltInMethods.{is_before}
 
 -- the counts of those whose names stand before a name
 unfoldable pub counts_before : List (List ℕ × ℕ) → List ℕ → ℕ

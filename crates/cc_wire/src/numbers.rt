@@ -3,7 +3,7 @@
 ghost use Rattle.std.specs.Prelude.{◌≡◌, ◌<◌, ◌^◌};
 ghost use Rattle.std.specs.Ordering.{nat_cmp};
 ghost use Rattle.std.specs.Cmp.Lexicographic.{slice_cmp};
-ghost use Rattle.cc_meaning_run.specs.BuiltInMethods.{is_before, built_in_tables, methods_before};
+ghost use Rattle.cc_built_in.specs.BuiltInMethods.{is_before, built_in_tables, methods_before};
 ghost use Rattle.std.specs.Option.{option_copied};
 ghost use Rattle.cc_meaning_plain.specs.Program.{main_name, before_main, function_number};
 ghost use Rattle.cc_meaning_clone.specs.Functions.{function_place, function_numbered};

@@ -1,6 +1,6 @@
 use Rattle.std.proofs.Common.{◌∙◌, refl}
 use Rattle.cc_meaning.specs.BuiltIn.{object_name, string_name, string_builder_name, system_name, print_stream_name, throwable_name, exception_name, error_name, runtime_exception_name, arithmetic_exception_name, null_pointer_exception_name, array_store_exception_name, class_cast_exception_name, index_out_of_bounds_exception_name, negative_array_size_exception_name, illegal_argument_exception_name, illegal_state_exception_name, array_index_out_of_bounds_exception_name, string_index_out_of_bounds_exception_name, linkage_error_name, virtual_machine_error_name, no_class_def_found_error_name, exception_in_initializer_error_name, incompatible_class_change_error_name, abstract_method_error_name, stack_overflow_error_name}
-use Rattle.cc_meaning_run.specs.BuiltInMethods.{print_stream_methods, object_methods, string_methods, string_builder_methods, message_methods, built_in_tables}
+use Rattle.cc_built_in.specs.BuiltInMethods.{print_stream_methods, object_methods, string_methods, string_builder_methods, message_methods, built_in_tables}
 use Rattle.cc_members.specs.Listed.{listed_in, table_of}
 use Rattle.cc_members.proofs.made_built_in.methods_of.Goals as goal
 

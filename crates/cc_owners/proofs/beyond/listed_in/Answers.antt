@@ -1,6 +1,6 @@
 use Rattle.std.proofs.Common.{◌≡◌, map, sym, ap, ◌∙◌}
 use Rattle.cc_meaning.specs.declared.program.ClassKind.TheVariants.{BuiltIn, Array}
-use Rattle.cc_meaning_program.specs.OwnMembers.{built_in_member}
+use Rattle.cc_built_in.specs.BuiltInMethods.{built_in_member}
 use Rattle.cc_owners.specs.Listings.{class_methods}
 use Rattle.cc_owners.proofs.Inheriting.{built_in_if, place_listed, of_class, of_array, nothing_listed}
 use Rattle.cc_owners.proofs.Lists.{some_is}

@@ -1,5 +1,5 @@
 use Rattle.std.proofs.Common.{rules, refl, sym, ap, ◌≡◌, ◌∙◌, ◌+◌, suc, arith, cond, Bool, List, ℕ, drop}
-use Rattle.cc_meaning_run.specs.BuiltInMethods.{is_before}
+use Rattle.cc_built_in.specs.BuiltInMethods.{is_before}
 use Rattle.cc_meaning_plain.specs.Program.{main_name, before_main}
 use Rattle.cc_wire.proofs.Counts.{before_main_more, before_main_end}
 use Rattle.cc_wire.proofs.numbers.before_main.Goals as goal

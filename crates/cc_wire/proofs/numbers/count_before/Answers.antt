@@ -1,5 +1,5 @@
 use Rattle.std.proofs.Common.{rules, refl, sym, ap, ◌≡◌, ◌∙◌, ◌+◌, arith, cond, Bool, true, false, slice_index_or, drop, ℕ, []}
-use Rattle.cc_meaning_run.specs.BuiltInMethods.{is_before}
+use Rattle.cc_built_in.specs.BuiltInMethods.{is_before}
 use Rattle.cc_wire.specs.Numbers.{counts_before, rows_of}
 use Rattle.cc_wire.proofs.Counts.{counts_more, counts_end}
 use Rattle.cc_wire.proofs.numbers.count_before.Goals as goal

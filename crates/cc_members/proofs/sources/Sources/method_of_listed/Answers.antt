@@ -1,6 +1,6 @@
 use Rattle.std.proofs.Common.{sym, ap, ◌∙◌, refl}
 use Rattle.std.specs.Prelude.{not}
-use Rattle.cc_meaning_program.specs.OwnMembers.{built_in_member}
+use Rattle.cc_built_in.specs.BuiltInMethods.{built_in_member}
 use Rattle.cc_members.specs.Listed.{listed_in}
 use Rattle.cc_members.proofs.Spelling.{result_spelled}
 use Rattle.cc_members.proofs.sources.Sources.method_of_listed.Goals as goal

@@ -1,7 +1,8 @@
 use Rattle.std.proofs.Common.{◌≡◌, ◌⊎◌, ◌↔◌, length, subst, ap, ◌∙◌, arith}
 use Rattle.std.specs.Prelude.{Contains}
 use Rattle.std.proofs.lemmas.List.{length-map}
-use Rattle.cc_meaning_program.specs.OwnMembers.{built_in_member, built_in_methods_of}
+use Rattle.cc_built_in.specs.BuiltInMethods.{built_in_member}
+use Rattle.cc_meaning_program.specs.OwnMembers.{built_in_methods_of}
 use Rattle.cc_meaning_program.specs.declared.plan.MethodPlan.{MethodPlan}
 use Rattle.cc_meaning_program.specs.Plans.{name_at}
 use Rattle.cc_members.specs.Candidates.{IsBelow, built_in_plan}

@@ -1,5 +1,6 @@
 use Rattle.std.proofs.Common.{map, sym, ap, ◌∙◌}
-use Rattle.cc_meaning_program.specs.OwnMembers.{built_in_by_kind, built_in_member}
+use Rattle.cc_built_in.specs.BuiltInMethods.{built_in_member}
+use Rattle.cc_meaning_program.specs.OwnMembers.{built_in_by_kind}
 use Rattle.cc_members.proofs.Outlined.{outlined, listed_by}
 use Rattle.cc_members.proofs.tables.Tables.table.Goals as goal
 
