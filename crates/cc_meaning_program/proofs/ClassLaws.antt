@@ -1,17 +1,16 @@
 -- Laws on the faults of a file's classes and on their hierarchy.
-use Rattle.std.proofs.Common.{◌≡◌, ◌≢◌, ◌⊎◌, inl, inr, ℕ, zero, suc, ◌+◌, ◌<◌, ◌≤◌, true, false, List, [], ◌∷◌, length, get_or, Bool, Option, Some, None, slice_get, refl, ap, subst, sym, ◌∙◌, arith}
+use Rattle.std.proofs.Common.{◌≡◌, ◌≢◌, ◌⊎◌, inl, inr, ℕ, zero, suc, ◌<◌, ◌≤◌, true, false, List, [], ◌∷◌, length, get_or, Bool, Option, Some, None, slice_get, refl, ap, subst, sym, ◌∙◌, arith}
 use Rattle.std.specs.Str.{bytes_eq}
 use Rattle.std.proofs.lemmas.Bool.{cases_lt}
 use Rattle.std.proofs.lemmas.Option.{slice_get_within, slice_get_cases}
 use Rattle.std.proofs.lemmas.Slice.Eq.{bytes_eq-Decides}
-use Rattle.cc_meaning.specs.declared.fault.ProgramFault.{ProgramFault}
 use Rattle.cc_meaning.specs.declared.fault.ProgramFault.TheVariants as faults
 use Rattle.cc_meaning.specs.declared.file.ClassRow.{ClassRow}
 use Rattle.cc_meaning.specs.declared.file.Ids.{Ids}
 use Rattle.cc_meaning.specs.declared.file.RawClass.{RawClass}
 use Rattle.cc_meaning_program.specs.Named.{type_name}
 use Rattle.cc_meaning_program.specs.Definitions.{Defines, Extends, Implements, IsAbove, next, further}
-use Rattle.cc_meaning_program.specs.ClassFaults.{NamesFirst, IsClassFault, AreSound, OneClassFault, SoundClassesHaveNoFault}
+use Rattle.cc_meaning_program.specs.ClassFaults.{NamesFirst, AreSound, OneClassFault, SoundClassesHaveNoFault}
 use Rattle.cc_meaning_program.specs.Climbing.{Leaves, out, up, SoundClassesLeave}
 
 -- ---- faults

@@ -1,6 +1,5 @@
 -- The members that a class itself has: those that the file defines, and the built-in methods.
-use Rattle.std.specs.Prelude.{ℕ, Bool, List, [], ◌∷◌, ◌++◌, Option, Some, None, option_and_then, slice_get, find, position, codes, take}
-use Rattle.std.specs.List.{flat_map}
+use Rattle.std.specs.Prelude.{ℕ, Bool, List, [], Option, Some, None, option_and_then, slice_get, find, position, codes, take}
 use Rattle.std.specs.Str.{bytes_eq}
 use Rattle.cc_meaning.specs.declared.file.ClassRow.{ClassRow}
 use Rattle.cc_meaning.specs.declared.file.Ids.{Ids}
@@ -9,8 +8,7 @@ use Rattle.cc_meaning.specs.declared.file.RawField.{RawField}
 use Rattle.cc_meaning.specs.declared.file.RawMethod.{RawMethod}
 use Rattle.cc_meaning.specs.declared.program.ClassKind.{ClassKind}
 use Rattle.cc_meaning.specs.declared.program.ClassKind.TheVariants as kind
-use Rattle.cc_meaning.specs.BuiltIn.{object_name}
-use Rattle.cc_built_in.specs.BuiltInMethods.{BuiltInMethod, BuiltInMethods, built_in_method, built_in_tables}
+use Rattle.cc_built_in.specs.BuiltInMethods.{BuiltInMethod, built_in_member, methods_of_class, array_methods}
 use Rattle.cc_meaning_program.specs.Named.{type_name, field_member, method_member}
 use Rattle.cc_meaning_program.specs.Ancestry.{kind_of_class}
 

@@ -1,5 +1,5 @@
 -- What the bytes of a file spell: one program for each main class at most, or the first fault.
-use Rattle.std.specs.Prelude.{◌≡◌, ℕ, List, Option, Some, Err}
+use Rattle.std.specs.Prelude.{◌≡◌, ℕ, List, Option, Some}
 use Rattle.cc_meaning.specs.declared.fault.DexFault.{DexFault}
 use Rattle.cc_meaning.specs.declared.fault.DexFault.TheVariants as dex
 use Rattle.cc_meaning.specs.declared.fault.ProgramFault.{ProgramFault}
