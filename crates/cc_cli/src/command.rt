@@ -10,6 +10,7 @@ ghost use Rattle.cc_cli.specs.Offloading.{tells_of, offload_named};
 ghost use Rattle.cc_cli.specs.Runs.{Sources, CallPlan, WordsPlan};
 
 use crate::offload::{offload_files, offload_named};
+use cc_command_check::LONGEST_FILE;
 use cc_link::Link;
 use cc_machine::run;
 use cc_meaning::lists::Bytes;
@@ -19,9 +20,6 @@ use cc_output::{Fault, Plan};
 use cc_outside::{ReadEnd, Shelf};
 use cc_plain::read_plain;
 use std::alloc::{AllocError, Global};
-
-/// The longest file that is read, in bytes.
-pub const LONGEST_FILE: u64 = 8_388_608;
 
 /// The limits of a run for which none are named.
 pub const DEFAULT_LIMITS: Limits = Limits {

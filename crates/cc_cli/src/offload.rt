@@ -11,7 +11,8 @@ ghost use Rattle.cc_partition.specs.Partition.{IsPartition};
 ghost use Rattle.cc_cli.specs.Plans.{IsNotPlain};
 ghost use Rattle.cc_cli.specs.Offloading.{tells_of, all_names, offload_named, longest_text, UnreadPlan, job_of, ReadPlan, OffloadedPlan, Offloaded, TextPlan, PartitionPlan, ScriptPlan, FilePlan, OffloadPlan};
 
-use crate::command::{DEFAULT_LIMITS, LONGEST_FILE};
+use crate::command::DEFAULT_LIMITS;
+use cc_command_check::LONGEST_FILE;
 use cc_device::offload;
 use cc_link::Link;
 use cc_meaning::fault::Memory;

@@ -9,5 +9,5 @@ mod words;
 
 pub use command::check_words;
 pub use help::{check_help, version};
-pub use plan::check_plan;
+pub use plan::{LONGEST_FILE, check_plan};
 pub use words::{CheckCall, law_one_call, read_check};

@@ -17,7 +17,7 @@ use cc_outside::{ReadEnd, Shelf};
 use std::alloc::{AllocError, Global};
 
 /// The longest file that is read, in bytes.
-const LONGEST_FILE: u64 = 8_388_608;
+pub const LONGEST_FILE: u64 = 8_388_608;
 
 /// The plan of a file that was refused.
 fn refused_plan(alloc: Global, fault: CheckFault) -> Result<Plan, AllocError>
