@@ -1,4 +1,4 @@
-use Rattle.std.proofs.Common.{◌≡◌, map, sym, ap, ◌∙◌}
+use Rattle.std.proofs.Common.{◌≡◌, [], map, sym, ap, ◌∙◌}
 use Rattle.cc_meaning.specs.declared.program.ClassKind.TheVariants.{BuiltIn, Array}
 use Rattle.cc_built_in.specs.BuiltInMethods.{built_in_member, methods_of_class}
 use Rattle.cc_built_in.specs.Listed.{members_listed}
@@ -13,6 +13,9 @@ returns-in-BuiltIn c = λ name named.
     place_listed linked.ids.now name c.args.member.now BuiltIn (members_listed c.methods_of_class.result.now) c.place_among.result
     (sym c.in-BuiltIn.is ∙ (c.requires.known.outlines.each c.args.class name c.at.result.now named c.at.ensures.get).kind)
     (c.methods_of_class.ensures.members ∙ (ap (λ n. map built_in_member (methods_of_class n)) (c.as_slice-name.ensures ∙ same) ∙ ap (map built_in_member) (of_class name))) c.place_among.ensures
+
+pub place_among-requires-in-Array : goal.place_among-requires-in-Array
+place_among-requires-in-Array c = (c.array_methods.ensures []).few
 
 pub returns-in-Array : goal.returns-in-Array
 returns-in-Array c = λ name named.
