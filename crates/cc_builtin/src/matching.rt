@@ -35,7 +35,7 @@ fn behind_base<'a>(text: &'a [u8], program: &Program, base: Base) -> Option<&'a 
     }
 }
 
-#[tactic(auto, using(crate::proofs::Brackets::next_bracket, crate::proofs::Brackets::no_bracket), unfolding(cc_units::specs::Matching::without))]
+#[tactic(auto, using(crate::proofs::BracketsLeft::next_bracket, crate::proofs::BracketsLeft::no_bracket), unfolding(cc_units::specs::Matching::without))]
 fn behind_brackets(text: &[u8], dims: u8) -> Option<&[u8]>
     ensures { option_copied result ≡ without text.now (replicate dims 91) }
 {

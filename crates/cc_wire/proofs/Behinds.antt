@@ -1,6 +1,8 @@
 -- What stands behind the numbers of a function's Run, step by step.
-use Rattle.std.proofs.Common.{◌≡◌, ℕ, ℤ, List, [], ◌∷◌, refl, ◌∙◌}
+use Rattle.std.proofs.Common.{◌≡◌, ℕ, ℤ, List, [], ◌∷◌, refl, sym, ap, ◌∙◌}
+use Rattle.cc_meaning.specs.declared.instruction.Kind.{Kind}
 use Rattle.cc_meaning.specs.declared.instruction.Kind.TheVariants as access
+use Rattle.cc_meaning.specs.declared.value.Value.{Value}
 use Rattle.cc_meaning.specs.declared.value.Value.TheVariants as value
 use Rattle.cc_meaning.specs.declared.fault.ImageFault.{ImageFault}
 use Rattle.cc_meaning.specs.declared.image.RunImage.{RunImage}

@@ -2,6 +2,7 @@
 use Rattle.std.proofs.Common.{◌≡◌, ◌≢◌, ℕ, List, [], ◌∷◌, length, ◌==◌, refl, sym, ap, ◌∙◌}
 use Rattle.std.specs.Ordering.{nat_cmp, ordering_then, ordering_reverse, ordering_index, is_lt}
 use Rattle.std.proofs.lemmas.Cmp.{nat_list_cmp_total}
+use Rattle.std.specs.Cmp.{IsTotalOrder}
 use Rattle.cc_built_in.specs.BuiltInMethods.{is_before}
 use Rattle.cc_meaning_plain.specs.Program.{main_name}
 use Rattle.std.specs.declared.cmp.Ordering.{Ordering}

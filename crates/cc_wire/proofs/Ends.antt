@@ -1,13 +1,16 @@
 -- The image of a function's end, step by step.
-use Rattle.std.proofs.Common.{◌≡◌, ◌≢◌, ℕ, zero, suc, ◌==◌, ◌&&◌, ℤ, true, false, cond, List, [], ◌∷◌, Some, refl, ◌∙◌, nat_le}
+use Rattle.std.proofs.Common.{◌≡◌, ◌≢◌, ℕ, zero, suc, ◌+◌, ◌<◌, ◌≤◌, ◌==◌, ◌&&◌, ℤ, Bool, true, false, cond, List, [], ◌∷◌, Option, Some, None, refl, sym, ap, ◌∙◌, arith, nat_le}
+use Rattle.std.specs.Int.{w32, w64}
+use Rattle.std.proofs.lemmas.Bool.Decides.{nat_tests}
 use Rattle.cc_meaning.specs.declared.instruction.Kind.TheVariants as access
 use Rattle.cc_meaning.specs.declared.value.Value.TheVariants as value
+use Rattle.cc_meaning.specs.declared.report.CallEnd.{CallEnd}
 use Rattle.cc_meaning.specs.declared.report.CallEnd.TheVariants as end
 use Rattle.cc_meaning.specs.declared.report.StopCause.TheVariants as cause
 use Rattle.cc_meaning.specs.declared.image.Contents.TheVariants as contents
 use Rattle.cc_meaning.specs.declared.fault.ImageFault.{ImageFault}
 use Rattle.cc_meaning.specs.declared.fault.ImageFault.TheVariants.{BadKind}
-use Rattle.cc_meaning_images.specs.Reading.{got, wrong, reading, byte, none, values, result, ending_by, ending, statuses_since, back_behind}
+use Rattle.cc_meaning_images.specs.Reading.{Got, got, wrong, reading, allowed, number, byte, none, values, result, ending_by, ending, statuses_since, back_head, back_behind}
 use Rattle.cc_meaning_plain.specs.declared.plain.Plain.{Plain}
 use Rattle.cc_meaning_plain.specs.Program.{program_of}
 use Rattle.cc_meaning_clone.specs.Functions.{FormIs}

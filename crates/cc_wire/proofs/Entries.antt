@@ -1,5 +1,6 @@
 -- What the image of a plain function's entry says of its end.
-use Rattle.std.proofs.Common.{◌≡◌, ℕ, Bool, true, false, cond, List, [], ◌∷◌, length, Option, Some, None, sym, ap, ◌∙◌, arith, slice_get}
+use Rattle.std.proofs.Common.{◌≡◌, ℕ, Bool, true, false, cond, List, [], ◌∷◌, length, Option, Some, None, refl, sym, ap, ◌∙◌, subst, arith, slice_get}
+use Rattle.cc_meaning.specs.declared.program.DexType.{DexType}
 use Rattle.cc_meaning.specs.declared.program.Method.{Method}
 use Rattle.cc_meaning.specs.declared.program.Code.{Code}
 use Rattle.cc_meaning.specs.declared.program.Program.{Program}

@@ -1,10 +1,10 @@
 -- What the bytes in front say.
-use Rattle.std.proofs.Common.{◌≡◌, ℕ, ◌+◌, ◌<◌, ◌≤◌, false, List, [], ◌∷◌, length, take, drop, refl, sym, ap, ◌∙◌, arith, nat_le}
-use Rattle.std.specs.Int.{Width, byte_len, from_be_bytes}
+use Rattle.std.proofs.Common.{◌≡◌, ℕ, ◌+◌, ◌<◌, ◌≤◌, Bool, true, false, List, [], ◌∷◌, length, take, drop, refl, sym, ap, ◌∙◌, arith, nat_le}
+use Rattle.std.specs.Int.{Width, w16, w32, w64, byte_len, from_be_bytes}
 use Rattle.std.proofs.lemmas.Bool.{le-leb}
 use Rattle.std.proofs.lemmas.Bool.Decides.{nat_tests}
 use Rattle.cc_meaning.specs.declared.fault.ImageFault.TheVariants.{CutOff}
-use Rattle.cc_meaning_images.specs.Reading.{got, wrong, number_if, number, byte}
+use Rattle.cc_meaning_images.specs.Reading.{Got, got, wrong, number_if, number, byte}
 
 pub number_got : (w : Width) (at : ℕ) (rest : List ℕ) → byte_len w ≤ length rest → number w at rest ≡ got (from_be_bytes w (take (byte_len w) rest)) (at + byte_len w) (drop (byte_len w) rest)
 unfolding number number_if

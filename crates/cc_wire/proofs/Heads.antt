@@ -1,11 +1,11 @@
 -- The numbers before the statuses, step by step.
-use Rattle.std.proofs.Common.{◌≡◌, ℕ, true, false, List, Some, None, refl, ◌∙◌, arith}
+use Rattle.std.proofs.Common.{◌≡◌, ℕ, ◌==◌, Bool, true, false, not, List, Option, Some, None, refl, sym, ap, ◌∙◌, arith}
 use Rattle.std.specs.Int.{w16, w32, w64}
 use Rattle.std.proofs.lemmas.Bool.Decides.{nat_tests}
 use Rattle.cc_meaning.specs.declared.program.Program.{Program}
 use Rattle.cc_meaning.specs.declared.fault.ImageFault.{ImageFault}
 use Rattle.cc_meaning.specs.declared.fault.ImageFault.TheVariants.{BadKind}
-use Rattle.cc_meaning_images.specs.Reading.{Got, got, wrong, reading, allowed, number, Runnable, runnable, has_frame, has_registers, RunHead, run_head}
+use Rattle.cc_meaning_images.specs.Reading.{Got, got, wrong, reading, allowed, number, Runnable, runnable, on_runnable, has_frame, has_registers, RunHead, run_head}
 use Rattle.cc_wire.proofs.Chains.{got_on, wrong_on, is_allowed, not_allowed}
 
 module _ (p : Program) (at : ℕ) (rest : List ℕ) where

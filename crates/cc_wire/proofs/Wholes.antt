@@ -1,12 +1,12 @@
 -- An image as a whole: nothing stands behind it, and its counters are judged.
-use Rattle.std.proofs.Common.{◌≡◌, ℕ, Bool, true, false, List, [], ◌∷◌, length, Option, Ok, Err, refl, ◌∙◌, arith, slice_get}
+use Rattle.std.proofs.Common.{◌≡◌, ℕ, Bool, true, false, List, [], ◌∷◌, length, Option, Result, Ok, Err, refl, sym, ap, ◌∙◌, arith, slice_get}
 use Rattle.cc_meaning.specs.declared.program.DexType.{DexType}
 use Rattle.cc_meaning.specs.declared.image.BackImage.{BackImage}
 use Rattle.cc_meaning.specs.declared.program.Program.{Program}
 use Rattle.cc_meaning.specs.declared.fault.ImageFault.{ImageFault}
 use Rattle.cc_meaning.specs.declared.fault.ImageFault.TheVariants.{Trailing, BadCounter}
 use Rattle.cc_meaning.specs.declared.image.RunImage.{RunImage}
-use Rattle.cc_meaning_images.specs.Reading.{Got, got, wrong, reading, whole, RunHead, run_head, run_behind, run_fits, read_run, result_of, BackHead, back_head, back_behind, back_fits, read_back}
+use Rattle.cc_meaning_images.specs.Reading.{Got, got, wrong, reading, fitting, whole, RunHead, run_head, run_behind, run_fits, read_run, result_of, BackHead, back_head, back_behind, back_fits, read_back}
 use Rattle.cc_wire.proofs.Chains.{got_on, wrong_on}
 
 -- ---- any image

@@ -1,4 +1,4 @@
-use Rattle.std.proofs.Common.{rules, ℤ, Some, sym, ap, ◌∙◌}
+use Rattle.std.proofs.Common.{rules, ℤ, Some, sym, ap, ◌∙◌, arith}
 use Rattle.std.specs.Int.{w32}
 use Rattle.std.proofs.lemmas.Int.{to_z-of_z}
 use Rattle.std.proofs.lemmas.Result.{err_from_is_err_and}

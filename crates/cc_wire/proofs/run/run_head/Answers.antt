@@ -1,7 +1,9 @@
-use Rattle.std.proofs.Common.{◌≡◌, true, sym, ◌∙◌, arith}
+use Rattle.std.proofs.Common.{◌≡◌, ◌==◌, false, true, not, sym, ap, ◌∙◌, arith, Bool}
 use Rattle.std.proofs.lemmas.Bool.Decides.{nat_tests}
 use Rattle.std.proofs.lemmas.Result.{err_from_is_err_and}
-use Rattle.cc_meaning_images.specs.Reading.{has_frame}
+use Rattle.cc_meaning_images.specs.Reading.{has_frame, has_registers}
+use Rattle.cc_meaning_plain.specs.Program.{program_of}
+use Rattle.cc_wire.specs.Runs.{target_of}
 use Rattle.cc_wire.proofs.Heads as heads
 use Rattle.cc_wire.proofs.run.run_head.Goals as goal
 
