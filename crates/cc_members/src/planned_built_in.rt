@@ -63,7 +63,8 @@ fn name_of_out(alloc: Global) -> Result<Texts, AllocError>
     ensures { IfOk result (λ names. names ≡ out_member ∷ []) }
 {
     let mut names = List::new(alloc);
-    names.push(units_of(alloc, OUT)?)?;
+    let out = units_of(alloc, OUT)?;
+    names.push(out)?;
     Ok(names)
 }
 
@@ -73,8 +74,10 @@ pub fn known_listings(alloc: Global) -> Result<Listings, AllocError>
 {
     let classes = built_in_names(alloc)?;
     let mut members = names_of_each(alloc, built_in_classes())?;
-    members.push(names_of(alloc, array_methods())?)?;
-    members.push(name_of_out(alloc)?)?;
+    let arrays = names_of(alloc, array_methods())?;
+    members.push(arrays)?;
+    let out = name_of_out(alloc)?;
+    members.push(out)?;
     Ok(Listings { classes, members })
 }
 

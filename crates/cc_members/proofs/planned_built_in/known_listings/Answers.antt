@@ -1,4 +1,15 @@
+use Rattle.std.proofs.Common.{[], ◌∷◌, map, append_assoc}
+use Rattle.cc_built_in.specs.BuiltInMethods.{BuiltInMethods, built_in_tables, array_methods, built_in_member}
+use Rattle.cc_meaning_program.specs.Members.{out_member}
+use Rattle.cc_members.specs.ListedNames.{listed_members}
 use Rattle.cc_members.proofs.planned_built_in.known_listings.Goals as goal
 
 pub returns : goal.returns
-returns c = search
+unfolding listed_members
+returns c =
+    let of_classes = map (λ (table : BuiltInMethods). map built_in_member table.methods) built_in_tables in
+    record {
+      classes = c.in_ok-classes.ensures.are;
+      members = rw (c.in_ok-push-2.ensures.ok, c.in_ok-push.ensures.ok, c.in_ok-members.ensures, c.built_in_classes.ensures.members, c.in_ok-arrays.ensures, (c.array_methods.ensures []).members, c.in_ok-out.ensures)
+          (append_assoc of_classes (map built_in_member (array_methods []) ∷ []) ((out_member ∷ []) ∷ []));
+    }
