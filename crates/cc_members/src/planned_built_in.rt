@@ -1,6 +1,6 @@
 //! The members that built-in classes and arrays list, and `System.out`.
 
-ghost use Rattle.std.specs.Prelude.{◌≡◌, ◌∷◌, [], ◌<◌, ◌^◌, ℕ, List, map, length, position, IfOk};
+ghost use Rattle.std.specs.Prelude.{◌≡◌, ◌∷◌, [], ◌<◌, ◌+◌, ◌^◌, ℕ, List, map, length, position, IfOk};
 ghost use Rattle.std.specs.Str.{bytes_eq};
 ghost use Rattle.cc_meaning.specs.BuiltIn.{system_name};
 ghost use Rattle.cc_built_in.specs.BuiltInMethods.{built_in_member};
@@ -17,23 +17,18 @@ use cc_meaning::lists::{Texts, Units};
 use cc_meaning::program::ClassKind;
 use std::alloc::{AllocError, Global};
 
-/// The place of `System` among the classes.
-const SYSTEM: usize = 23;
-
-/// The place of the members of arrays.
-const ARRAY_TABLE: u32 = 26;
-
-/// The place of `System.out`.
-pub(crate) const OUT_TABLE: u32 = 27;
+const SYSTEM: &[u8] = b"Ljava/lang/System;";
 
 /// `System.out`, as printed within its class.
 const OUT: &[u8] = b"out:Ljava/io/PrintStream;";
 
-/// The built-in classes in the order of their names. The names of members within them: class by class in that order, then those of arrays, then `System.out`.
+/// The names of the built-in classes in their order, the names of members within them, and that of `System`. Members stand class by class in that order,
+/// then those of arrays, then `System.out`.
 #[derive(Drop)]
 pub struct Listings {
     pub(crate) classes: Texts,
     pub(crate) members: List<Texts>,
+    pub(crate) system: Units,
 }
 
 /// The names of methods within their class.
@@ -78,7 +73,12 @@ pub fn known_listings(alloc: Global) -> Result<Listings, AllocError>
     members.push(arrays)?;
     let out = name_of_out(alloc)?;
     members.push(out)?;
-    Ok(Listings { classes, members })
+    let system = units_of(alloc, SYSTEM)?;
+    Ok(Listings {
+        classes,
+        members,
+        system,
+    })
 }
 
 /// The place of a name among names, where it stands there.
@@ -97,6 +97,23 @@ fn place_among(names: &[Units], name: &[u16]) -> Option<u32>
 }
 
 impl Listings {
+    /// The place of the members of arrays, which is behind those of all classes.
+    fn array_table(&self) -> u32
+        requires { AreListings self.now }
+        ensures is { result ≡ length self.now.classes }
+        ensures few { result + 1 < 2 ^ 32 }
+    {
+        self.classes.len() as u32
+    }
+
+    /// The place of `System.out`, which is behind arrays.
+    pub fn out_table(&self) -> u32
+        requires { AreListings self.now }
+        ensures { listed_text self.now.members result 0 ≡ out_member }
+    {
+        self.array_table() + 1
+    }
+
     /// Where the members stand that the class of a name lists itself, by what it is.
     pub fn table_of(&self, kind: ClassKind, class: &[u16]) -> Option<u32>
         requires { AreListings self.now }
@@ -104,7 +121,7 @@ impl Listings {
     {
         match kind {
             ClassKind::BuiltIn => place_among(self.classes.as_slice(), class),
-            ClassKind::Array => Some(ARRAY_TABLE),
+            ClassKind::Array => Some(self.array_table()),
             _ => None,
         }
     }
@@ -142,9 +159,6 @@ impl Listings {
         requires { AreListings self.now }
         ensures { result.now ≡ system_name }
     {
-        match self.classes.get(SYSTEM) {
-            Some(name) => name.as_slice(),
-            None => &[],
-        }
+        self.system.as_slice()
     }
 }
