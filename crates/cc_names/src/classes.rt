@@ -71,17 +71,6 @@ impl Naming for ByNumber {
     }
 }
 
-/// These names in ASCII, as units.
-pub fn ascii_names(alloc: Global, names: &[&[u8]]) -> Result<Texts, AllocError>
-    ensures { IfOk result (λ texts. texts ≡ map (λ name. name.now) names.now) }
-{
-    let mut texts = List::new(alloc);
-    for name in names {
-        texts.push(units_of(alloc, name)?)?;
-    }
-    Ok(texts)
-}
-
 /// The names of the classes that every program has: the built-in classes, and the array of texts, of which the arguments of `main` are one.
 fn known_names(alloc: Global) -> Result<Texts, AllocError>
     ensures { IfOk result AreKnown }
