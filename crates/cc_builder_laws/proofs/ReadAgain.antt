@@ -214,7 +214,7 @@ module _ (of_tables : WrittenTables) (of_members : WrittenMembers) (of_code : Wr
   passes : SpellsOuts file read outs
   passes place stated passed members is_stated is_passed is =
       let of = class_at place stated is_stated in
-      let these = written.passed place stated of.0 passed is_stated of.1.there is_passed in
+      let these = written.passed place stated is_stated of.0 passed of.1.there is_passed in
       let same = ap (λ (it : Members). it.methods) (only_written place stated of.0 of.1 these.members members is) in
       subst (λ methods. MethodsPass file methods passed) (sym same) these.passed
 

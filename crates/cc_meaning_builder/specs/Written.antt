@@ -118,7 +118,7 @@ CodePasses file at outs = at ≢ 0 → u16_at file (at + 4) ≡ outs
 -- each method's code passes what stands at its place
 abbrev pub MethodsPass : List ℕ → List StatedMethod → List ℕ → Type 0
 MethodsPass file methods outs =
-    (place : ℕ) (method : StatedMethod) (passed : ℕ) → slice_get methods place ≡ Some method → slice_get outs place ≡ Some passed → CodePasses file method.code_at passed
+    (place : ℕ) (method : StatedMethod) → slice_get methods place ≡ Some method → (passed : ℕ) → slice_get outs place ≡ Some passed → CodePasses file method.code_at passed
 
 -- the members of a class are written, and the code of its methods passes this
 pub record ClassPasses (file : List ℕ) (stated : ClassRow) (class : RawClass) (outs : List ℕ) : Type 0 where
@@ -127,7 +127,7 @@ pub record ClassPasses (file : List ℕ) (stated : ClassRow) (class : RawClass) 
 
 abbrev pub ClassesPass : List ℕ → List ClassRow → List RawClass → List (List ℕ) → Type 0
 ClassesPass file rows classes outs =
-    (place : ℕ) (stated : ClassRow) (class : RawClass) (passed : List ℕ) → slice_get rows place ≡ Some stated → slice_get classes place ≡ Some class → slice_get outs place ≡ Some passed →
+    (place : ℕ) (stated : ClassRow) → slice_get rows place ≡ Some stated → (class : RawClass) (passed : List ℕ) → slice_get classes place ≡ Some class → slice_get outs place ≡ Some passed →
     ClassPasses file stated class passed
 
 -- ---- the whole file
