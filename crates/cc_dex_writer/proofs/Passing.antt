@@ -1,18 +1,20 @@
 -- What code passes, as its items state it.
-use Rattle.std.proofs.Common.{◌≡◌, ℕ, zero, suc, ◌+◌, ◌<◌, List, [], ◌∷◌, ◌++◌, length, slice_get, Some, refl, sym, ap, subst, ◌∙◌, arith}
+use Rattle.std.proofs.Common.{◌≡◌, ◌≢◌, ◌⊎◌, inl, inr, ℕ, zero, suc, ◌+◌, ◌<◌, List, [], ◌∷◌, ◌++◌, length, slice_get, Some, refl, sym, ap, subst, ◌∙◌, arith}
 use Rattle.std.specs.List.{flat_map}
 use Rattle.cc_meaning.specs.declared.file.ClassRow.{ClassRow}
 use Rattle.cc_meaning.specs.declared.file.RawClass.{RawClass}
 use Rattle.cc_meaning.specs.declared.file.RawCode.{RawCode}
+use Rattle.cc_meaning.specs.declared.file.RawMethod.{RawMethod}
+use Rattle.cc_meaning_dex.specs.Classes.{EachPair}
 use Rattle.cc_meaning_dex.specs.Numbers.{Stands, u16_at}
 use Rattle.cc_meaning_dex.specs.declared.items.StatedMethod.{StatedMethod}
-use Rattle.cc_meaning_builder.specs.Forms.{little_form, u16_form, u32_form, tries_part, code_head, code_form}
+use Rattle.cc_meaning_builder.specs.Forms.{class_data_form, little_form, u16_form, u32_form, tries_part, code_head, code_form}
 use Rattle.cc_meaning_builder.specs.Laws.{StandsApart, WrittenU16}
-use Rattle.cc_meaning_builder.specs.Written.{ClassesPass, ClassPasses, CodePasses, MethodsPass}
-use Rattle.cc_dex_writer.specs.Items.{WhereGiven}
+use Rattle.cc_meaning_builder.specs.Written.{ClassPasses, CodePasses, IsMethodWritten, MethodsPass}
+use Rattle.cc_dex_writer.specs.Items.{MembersStand, WhereGiven}
 use Rattle.cc_dex_writer.specs.declared.section.Section.{Section}
-use Rattle.cc_dex_writer.specs.Section.{Adds}
-use Rattle.cc_dex_writer.proofs.Adding.{both, nothing, told}
+use Rattle.cc_dex_writer.specs.Section.{Adds, Grows}
+use Rattle.cc_dex_writer.proofs.Adding.{both, grows_twice, nothing, told}
 
 -- the third number of an item
 pub states_outs : StandsApart → WrittenU16 → (file : List ℕ) (at outs : ℕ) (code : RawCode) → outs < 65536 → Stands file at (code_form outs code) → u16_at file (at + 4) ≡ outs
@@ -64,3 +66,30 @@ pub class_told : (now next : Section) (classes : List RawClass) (outs : List (Li
 class_told now next classes outs place row own is given =
     told now next (λ file. WhereGiven (λ class. ClassPasses file row class own) (slice_get classes place)) (λ file. ClassPassesAt classes outs file place row) given (λ file here class passed there stands.
         subst (λ n. ClassPasses file row class n) (is passed stands) (subst (λ found. WhereGiven (λ class. ClassPasses file row class own) found) there here))
+
+-- ---- the members of a class
+
+none_written : (file : List ℕ) (methods : List RawMethod) → EachPair (IsMethodWritten file) [] methods → methods ≡ []
+none_written file [] each = refl
+none_written file (method ∷ methods) each = absurd each
+
+class_passes : (file : List ℕ) (row : ClassRow) (class : RawClass) (methods : List StatedMethod) (outs : List ℕ) (at : ℕ) → row.members_at ≡ at →
+    EachPair (IsMethodWritten file) methods class.methods → MethodsPass file methods outs → MembersStand file at class.fields methods → ClassPasses file row class outs
+class_passes file row class methods outs at same each passes stands = record { members = record { methods = methods; each = each; members = placed stands }; passed = passes }
+  where
+    placed : MembersStand file at class.fields methods →
+        ((row.members_at ≡ 0) × (class.fields ≡ []) × (class.methods ≡ [])) ⊎ ((row.members_at ≢ 0) × Stands file row.members_at (class_data_form class.fields methods))
+    placed (inl (none, no_fields, no_methods)) = inl (same ∙ none, no_fields, none_written file class.methods (subst (λ these. EachPair (IsMethodWritten file) these class.methods) no_methods each))
+    placed (inr (some, there)) = inr ((λ none. some (sym same ∙ none)), subst (λ k. Stands file k (class_data_form class.fields methods)) (sym same) there)
+
+-- the code of methods, behind it the class data, and behind that something else
+pub class_added : (old coded listed new : Section) (row : ClassRow) (class : RawClass) (methods : List StatedMethod) (outs : List ℕ) (at : ℕ) → row.members_at ≡ at →
+    Adds old coded (λ file. EachPair (IsMethodWritten file) methods class.methods) → Adds old coded (λ file. MethodsPass file methods outs) →
+    Adds coded listed (λ file. MembersStand file at class.fields methods) → Grows listed new → Adds old new (λ file. ClassPasses file row class outs)
+class_added old coded listed new row class methods outs at same written passed members grown = record {
+  grown = grows_twice old coded new written.grown (grows_twice coded listed new members.grown grown);
+  tells = λ file has.
+      let after = grown.keeps file has in
+      let early = members.grown.keeps file after in
+      class_passes file row class methods outs at same (written.tells file early) (passed.tells file early) (members.tells file after);
+}
