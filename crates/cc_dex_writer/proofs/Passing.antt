@@ -1,5 +1,5 @@
 -- What code passes, as its items state it.
-use Rattle.std.proofs.Common.{◌≡◌, ◌≢◌, ◌⊎◌, inl, inr, ℕ, zero, suc, ◌+◌, ◌<◌, List, [], ◌∷◌, ◌++◌, length, slice_get, Some, refl, sym, ap, subst, ◌∙◌, arith}
+use Rattle.std.proofs.Common.{◌≡◌, ◌≢◌, ◌⊎◌, inl, inr, ℕ, zero, suc, ◌+◌, ◌<◌, List, [], ◌∷◌, ◌++◌, length, slice_get, Some, refl, sym, subst, ◌∙◌, arith}
 use Rattle.std.specs.List.{flat_map}
 use Rattle.cc_meaning.specs.declared.file.ClassRow.{ClassRow}
 use Rattle.cc_meaning.specs.declared.file.RawClass.{RawClass}
@@ -65,7 +65,7 @@ pub class_told : (now next : Section) (classes : List RawClass) (outs : List (Li
     Adds now next (λ file. WhereGiven (λ class. ClassPasses file row class own) (slice_get classes place)) → Adds now next (λ file. ClassPassesAt classes outs file place row)
 class_told now next classes outs place row own is given =
     told now next (λ file. WhereGiven (λ class. ClassPasses file row class own) (slice_get classes place)) (λ file. ClassPassesAt classes outs file place row) given (λ file here class passed there stands.
-        subst (λ n. ClassPasses file row class n) (is passed stands) (subst (λ found. WhereGiven (λ class. ClassPasses file row class own) found) there here))
+    subst (λ n. ClassPasses file row class n) (is passed stands) (subst (λ found. WhereGiven (λ class. ClassPasses file row class own) found) there here))
 
 -- ---- the members of a class
 

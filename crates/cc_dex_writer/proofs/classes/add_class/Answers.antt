@@ -1,4 +1,4 @@
-use Rattle.std.proofs.Common.{◌≡◌, List, ℕ, subst}
+use Rattle.std.proofs.Common.{◌≡◌}
 use Rattle.std.proofs.lemmas.Result.{IfOk-weaker}
 use Rattle.cc_meaning.specs.declared.file.ClassRow.{ClassRow}
 use Rattle.cc_meaning_builder.specs.Written.{ClassPasses}
@@ -15,5 +15,5 @@ returns-clause-passed c =
     let members = rw c.as_slice-2.ensures at c.in_ok-members_at.ensures in
     IfOk-weaker c.placed.result (λ (row : ClassRow). row.members_at ≡ at) (λ row. Adds c.args.section.now c.add_values.new.self (λ file. ClassPasses file row class outs))
     (λ row same. class_added c.args.section.now c.add_methods.new.section c.add_members.new.self c.add_values.new.self row class c.in_ok-methods.methods outs at same
-        written c.in_ok-methods.ensures.passed members c.in_ok-values_at.ensures.grown)
+    written c.in_ok-methods.ensures.passed members c.in_ok-values_at.ensures.grown)
     c.placed.ensures.members

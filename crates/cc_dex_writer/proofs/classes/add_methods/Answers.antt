@@ -22,7 +22,7 @@ loop-number-preserved c =
     let next = c.add_method.new.section in
     let there = slice_get_read items (length items) c.loop-number.number method refl c.loop-number-test.true c.index-methods-number.is in
     let own = told now next _ (λ file. MethodPassesAt c.args.outs.now file c.loop-number.number stated) c.in_ok-stated.ensures.passed (λ file states passed is.
-        subst (λ n. CodePasses file stated.code_at n) (c.passed_by.ensures passed is) states) in
+    subst (λ n. CodePasses file stated.code_at n) (c.passed_by.ensures passed is) states) in
     rw c.in_ok-push.ensures.ok (record {
       count = omega (arith, length-append c.loop-number.all (stated ∷ []), c.loop-number.invariant.count);
       written = one_more IsMethodWritten c.args.section.now now next c.loop-number.all items c.loop-number.number stated method there c.loop-number.invariant.written c.in_ok-stated.ensures.written;
