@@ -23,13 +23,13 @@ use Rattle.cc_meaning_dex.specs.Values.{SpellsValues}
 use Rattle.cc_meaning_dex.specs.Ids.{SpellsIds}
 use Rattle.cc_meaning_builder.specs.declared.content.ListedClass.{ListedClass}
 use Rattle.cc_meaning_builder.specs.declared.content.ListedMethod.{ListedMethod}
-use Rattle.cc_meaning_builder.specs.Built.{HasSuitedCode, HasSuitedTries, HasSuitedValues, IsAdded, IsReadAgain, IsSuited}
+use Rattle.cc_meaning_builder.specs.Built.{HasSuitedCode, HasSuitedTries, HasSuitedValues, IsAdded, IsReadAgain, IsSuited, SpellsOuts}
 use Rattle.cc_meaning_program.specs.Rows.{FitTables}
 use Rattle.cc_meaning_builder.specs.Laws.{HandlersFit, NamesArePaired, MembersAreOwn, WrittenCode, WrittenMembers, WrittenTables, WrittenTries, WrittenValues, members_with}
 use Rattle.cc_meaning_builder.specs.Members.{AreRawClasses, IsRawClass, IsRawField, IsRawMethod}
 use Rattle.cc_meaning_builder.specs.Tables.{AreTables, IsClassRow}
 use Rattle.cc_meaning_builder.specs.WellNamed.{ClassIsNamed, WellNamed}
-use Rattle.cc_meaning_builder.specs.Written.{ClassFitsFormat, FitsFormat, IsClassWritten, IsMethodWritten, IsSameClass, IsSmallMethod, IsWritten, MethodFitsFormat}
+use Rattle.cc_meaning_builder.specs.Written.{AreMembersWritten, ClassFitsFormat, FitsFormat, IsClassWritten, IsMethodWritten, IsSameClass, IsSmallMethod, IsWritten, MethodFitsFormat, MethodsPass}
 use Rattle.cc_builder_laws.proofs.AddedHandlers.{cons_nil, handlers_fit}
 use Rattle.cc_builder_laws.proofs.Own.{new, same_ids, new_fit, new_paired, field_of, method_of}
 use Rattle.cc_builder_laws.proofs.Pairs.{all_of, contained, left, right, mapped}
@@ -38,8 +38,8 @@ some_same : {A : Type 0} {a b : A} → Some a ≡ Some b → a ≡ b
 some_same e = cc
 
 module _ (of_tables : WrittenTables) (of_members : WrittenMembers) (of_code : WrittenCode) (of_tries : WrittenTries) (of_values : WrittenValues) (agree : MembersAgree)
-    (content : List ListedClass) (ids : Ids) (classes : List RawClass) (file : List ℕ) (named : WellNamed content) (tables : AreTables content ids) (members : AreRawClasses content ids classes)
-    (fits : FitsFormat file ids classes) (written : IsWritten ids classes file) where
+    (content : List ListedClass) (ids : Ids) (classes : List RawClass) (outs : List (List ℕ)) (file : List ℕ) (named : WellNamed content) (tables : AreTables content ids) (members : AreRawClasses content ids classes)
+    (fits : FitsFormat file ids classes) (written : IsWritten ids classes outs file) where
   abbrev pub read : Ids
   read = written.written
 
@@ -107,11 +107,18 @@ module _ (of_tables : WrittenTables) (of_members : WrittenMembers) (of_code : Wr
       methods_rise = of.raw.methods_rise;
     }
 
+    -- the members that are spelled are those that are written
+    only_written : (these : AreMembersWritten file stated class) (other : Members) → SpellsMembers file read stated other → other ≡ members_with class these.methods
+    only_written these other is =
+        some_same
+        (sym ((agree file read stated other).1 is)
+        ∙ (agree file read stated (members_with class these.methods)).1 (of_members file read stated class fits.short of.stands.small own these))
+
     spells : SpellsMembers file read stated (members_with class methods)
     spells = of_members file read stated class fits.short of.stands.small own of.stands.members
 
     only : (other : Members) → SpellsMembers file read stated other → other ≡ members_with class methods
-    only other is = some_same (sym ((agree file read stated other).1 is) ∙ (agree file read stated (members_with class methods)).1 spells)
+    only other is = only_written of.stands.members other is
 
     small : (k : ℕ) (method : RawMethod) → slice_get class.methods k ≡ Some method → IsSmallMethod method
     small k method there = All-contains IsSmallMethod class.methods method of.stands.small.each_method (contained class.methods k method there)
@@ -204,5 +211,20 @@ module _ (of_tables : WrittenTables) (of_members : WrittenMembers) (of_code : Wr
       subst (SpellsClass file read stated) one
       (suited_class place stated of.0 of.1 (All-contains (IsSuited read) classes of.0 suited (contained classes place of.0 of.1.there))))
 
-  pub is_read_again : IsReadAgain ids classes file
-  is_read_again = record { read = read; same = written.same; spelled = spelled; faults = faults; suited = suits }
+  passes : SpellsOuts file read outs
+  passes place stated passed members is_stated is_passed is =
+      let of = class_at place stated is_stated in
+      let these = written.passed place stated is_stated of.0 passed of.1.there is_passed in
+      let same = ap (λ (it : Members). it.methods) (only_written place stated of.0 of.1 these.members members is) in
+      subst (λ methods. MethodsPass file methods passed) (sym same) these.passed
+
+  pub is_read_again : IsReadAgain ids classes outs file
+  is_read_again = record {
+    read = read;
+    same = written.same;
+    spelled = spelled;
+    faults = faults;
+    suited = suits;
+    passed = passes;
+    sections = written.sections;
+  }

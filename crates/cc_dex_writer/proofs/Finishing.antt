@@ -7,7 +7,7 @@ use Rattle.cc_meaning.specs.declared.file.RawClass.{RawClass}
 use Rattle.cc_meaning_dex.specs.Numbers.{Stands}
 use Rattle.cc_meaning_dex.specs.Tables.{longest_file}
 use Rattle.cc_meaning_dex.specs.Classes.{EachPair}
-use Rattle.cc_meaning_builder.specs.Written.{IsClassWritten, IsSameClass}
+use Rattle.cc_meaning_builder.specs.Written.{ClassesPass, IsClassWritten, IsSameClass}
 use Rattle.cc_dex_writer.specs.declared.offsets.Offsets.{Offsets}
 use Rattle.cc_dex_writer.specs.Laws.{FittingRowsAreSmall}
 use Rattle.cc_dex_writer.specs.Layout.{classes_at, data_start_of}
@@ -21,13 +21,14 @@ use Rattle.cc_dex_writer.proofs.ItemsStanding.{items_stand}
 use Rattle.cc_dex_writer.proofs.Placed.{placed, fit_placed, all_written}
 
 -- what is known of a file that is put together
-pub record IsMade (ids : Ids) (classes : List RawClass) (rows : List ClassRow) (offsets : Offsets) (begun now last : Section) (file : List ℕ) : Type 0 where
+pub record IsMade (ids : Ids) (classes : List RawClass) (outs : List (List ℕ)) (rows : List ClassRow) (offsets : Offsets) (begun now last : Section) (file : List ℕ) : Type 0 where
   pub few : length ids.texts < 2 ^ 32
   pub small : FittingRowsAreSmall
   pub base : data_start_of ids < 2 ^ 64 → begun.base ≡ data_start_of ids
   pub items : Adds begun now (λ file. AreItems file ids offsets)
   pub same : EachPair IsSameClass rows ids.classes
   pub classes_written : Adds now last (λ file. AreFirstWritten file ids rows classes)
+  pub classes_pass : Adds now last (λ file. ClassesPass file rows classes outs)
   pub whole : IsWhole (placed ids rows) offsets last.bytes file
 
 same_start : (ids : Ids) (rows : List ClassRow) → length rows ≡ length ids.classes → data_start_of (placed ids rows) ≡ data_start_of ids
@@ -43,8 +44,9 @@ has_section ids rows begun now last file long short base first second stands =
       stands = subst (λ n. Stands file n last.bytes) (sym here) stands;
     }
 
-pub file_of : (ids : Ids) (classes : List RawClass) (rows : List ClassRow) (offsets : Offsets) (begun now last : Section) (file : List ℕ) → IsMade ids classes rows offsets begun now last file → IsFileOf ids classes file
-file_of ids classes rows offsets begun now last file made fit whole fits =
+pub file_of : (ids : Ids) (classes : List RawClass) (outs : List (List ℕ)) (rows : List ClassRow) (offsets : Offsets) (begun now last : Section) (file : List ℕ) →
+    IsMade ids classes outs rows offsets begun now last file → IsFileOf ids classes outs file
+file_of ids classes outs rows offsets begun now last file made fit whole fits =
     let long : length rows ≡ length ids.classes = as_long IsSameClass rows ids.classes made.same in
     let start : data_start_of (placed ids rows) ≡ data_start_of ids = same_start ids rows long in
     let size : length file ≡ data_start_of (placed ids rows) + length last.bytes = made.whole.long in
@@ -60,7 +62,9 @@ file_of ids classes rows offsets begun now last file made fit whole fits =
       written = placed ids rows;
       same = record { texts = refl; types = refl; protos = refl; fields = refl; methods = refl; classes = made.same };
       header = made.whole.header few;
+      sections = made.whole.sections few;
       tables = made.whole.tables few;
       spelled = made.whole.spelled few room stand;
       members = all_written file ids rows rows classes written;
+      passed = made.classes_pass.tells file has;
     }

@@ -9,6 +9,7 @@ pub mod Whole
 pub mod Fitting
 pub mod HeadWidths
 pub mod Adding
+pub mod Passing
 pub mod ItemsStanding
 pub mod Placed
 pub mod Finishing

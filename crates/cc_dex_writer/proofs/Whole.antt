@@ -9,6 +9,7 @@ use Rattle.cc_meaning_dex.specs.Adler32.{adler32_of}
 use Rattle.cc_meaning_dex.specs.Numbers.{Stands}
 use Rattle.cc_meaning_dex.specs.Tables.{magic, usual_order, longest_file, IsHeader, stated_sum, found_sum, stated_signature, found_signature}
 use Rattle.cc_meaning_builder.specs.Forms.{u32_form}
+use Rattle.cc_meaning_builder.specs.Written.{HasNoSections}
 use Rattle.cc_builder_laws.specs.Standing.{StandsBehind}
 use Rattle.cc_dex_writer.specs.declared.offsets.Offsets.{Offsets}
 use Rattle.cc_dex_writer.specs.Layout.{texts_at, data_start_of, header_numbers}
@@ -125,12 +126,23 @@ module _ (lower : Lower) (ids : Ids) (offsets : Offsets) (bytes body : List ℕ)
         signature = signature_stated;
       }
 
+  sections : length file ≤ longest_file → HasNoSections file
+  unfolding header_numbers
+  sections short =
+      let parts_laid = laid short in
+      record {
+        link_size = stated lower ids offsets (length bytes) file parts_laid 3 0 refl (omega arith);
+        link_at = stated lower ids offsets (length bytes) file parts_laid 4 0 refl (omega arith);
+        map_at = stated lower ids offsets (length bytes) file parts_laid 5 0 refl (omega arith);
+      }
+
 pub built_is_whole : Lower → BuiltIsWhole
 built_is_whole lower ids offsets bytes body is = record {
   long = file_size lower ids offsets bytes body is;
   stands = bytes_stand lower ids offsets bytes body is;
   wide = is.wide;
   header = header lower ids offsets bytes body is;
+  sections = sections lower ids offsets bytes body is;
   tables = λ short. has_tables lower ids offsets (length bytes) (file_form body) (laid lower ids offsets bytes body is short);
   spelled = λ short. tables_spelled lower ids offsets (length bytes) (file_form body) (laid lower ids offsets bytes body is short);
 }

@@ -14,6 +14,7 @@ use Rattle.cc_meaning_dex.specs.Numbers.{Stands}
 use Rattle.cc_meaning_dex.specs.Tables.{magic, longest_file, IsHeader, HasTables}
 use Rattle.cc_meaning_dex.specs.Texts.{SpellsText}
 use Rattle.cc_meaning_builder.specs.Forms.{u32_form}
+use Rattle.cc_meaning_builder.specs.Written.{HasNoSections}
 use Rattle.cc_dex_writer.specs.declared.offsets.Offsets.{Offsets}
 use Rattle.cc_dex_writer.specs.Layout.{data_start_of, header_numbers}
 use Rattle.cc_dex_writer.specs.Rows.{tables_form}
@@ -84,12 +85,13 @@ pub record ItemsStand (ids : Ids) (offsets : Offsets) (file : List ℕ) : Type 0
 
 -- ---- the whole file
 
--- A file of a header, tables and data. One that is short enough to be read has a sound header, whose tables lie in the file; they spell the rows where
--- these have room in the slots of the format, and the items stand where the offsets say.
+-- A file of a header, tables and data. One that is short enough to be read has a sound header that states neither a link section nor a map, and whose tables
+-- lie in the file; they spell the rows where these have room in the slots of the format, and the items stand where the offsets say.
 pub record IsWhole (ids : Ids) (offsets : Offsets) (bytes file : List ℕ) : Type 0 where
   pub long : length file ≡ data_start_of ids + length bytes
   pub stands : Stands file (data_start_of ids) bytes
   pub wide : AreWideClasses ids.classes
   pub header : length file ≤ longest_file → IsHeader file
+  pub sections : length file ≤ longest_file → HasNoSections file
   pub tables : length file ≤ longest_file → HasTables file
   pub spelled : length file ≤ longest_file → HasSmallRows ids → ItemsStand ids offsets file → TablesSpelled file ids

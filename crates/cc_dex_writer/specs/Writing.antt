@@ -10,8 +10,8 @@ use Rattle.cc_dex_writer.specs.declared.offsets.Offsets.{Offsets}
 use Rattle.cc_dex_writer.specs.Items.{InterfacesStand, ParamsStand}
 
 -- within the bounds of the format, a file of tables whose rows fit, with a class for each definition, is written for them
-abbrev pub IsFileOf : Ids → List RawClass → List ℕ → Type 0
-IsFileOf ids classes file = FitTables ids → length classes ≡ length ids.classes → FitsFormat file ids classes → IsWritten ids classes file
+abbrev pub IsFileOf : Ids → List RawClass → List (List ℕ) → List ℕ → Type 0
+IsFileOf ids classes outs file = FitTables ids → length classes ≡ length ids.classes → FitsFormat file ids classes → IsWritten ids classes outs file
 
 -- the items of tables stand at these offsets
 pub record AreItems (file : List ℕ) (ids : Ids) (offsets : Offsets) : Type 0 where

@@ -1,9 +1,9 @@
 //! The items of classes: code, class data and values.
 
-ghost use Rattle.std.specs.Prelude.{◌≡◌, IfOk};
+ghost use Rattle.std.specs.Prelude.{◌≡◌, ℕ, List, slice_get, Some, IfOk};
 ghost use Rattle.cc_meaning_dex.specs.Classes.{EachPair};
 ghost use Rattle.std.specs.Option.{option_copied};
-ghost use Rattle.cc_meaning_builder.specs.Written.{IsClassWritten, IsMethodWritten, IsSameClass};
+ghost use Rattle.cc_meaning_builder.specs.Written.{ClassesPass, ClassPasses, CodePasses, IsClassWritten, IsMethodWritten, IsSameClass, MethodsPass};
 ghost use Rattle.cc_dex_writer.specs.Items.{AreFirstWritten, WhereGiven};
 ghost use Rattle.cc_dex_writer.specs.Section.{Adds};
 
@@ -18,7 +18,8 @@ use std::alloc::Global;
 
 /// Adds the code of a method, where it has some, and answers how its class data states it.
 fn add_method(section: &mut Section, outs: u16, method: &RawMethod) -> Result<StatedMethod, Memory>
-    ensures { IfOk result (λ stated. Adds section.old section.new (λ file. IsMethodWritten file stated method.now)) }
+    ensures written { IfOk result (λ stated. Adds section.old section.new (λ file. IsMethodWritten file stated method.now)) }
+    ensures passed { IfOk result (λ stated. Adds section.old section.new (λ file. CodePasses file stated.code_at outs)) }
 {
     let code_at = match &method.code {
         Some(code) => section.add_code(outs, code)?,
@@ -32,6 +33,16 @@ fn add_method(section: &mut Section, outs: u16, method: &RawMethod) -> Result<St
     })
 }
 
+/// The most arguments that the code of the method of a number passes, 0 where nothing is said of it.
+fn passed_by(outs: &[u16], number: usize) -> u16
+    ensures { (passed : ℕ) → slice_get outs.now number ≡ Some passed → result ≡ passed }
+{
+    match outs.get(number) {
+        Some(passed) => *passed,
+        None => 0,
+    }
+}
+
 /// Adds the code of methods, and answers how their class data states them. `outs` has the most arguments that each one's code passes.
 fn add_methods(
     alloc: Global,
@@ -39,12 +50,12 @@ fn add_methods(
     methods: &[RawMethod],
     outs: &[u16],
 ) -> Result<List<StatedMethod>, Memory>
-    ensures { IfOk result (λ stated. Adds section.old section.new (λ file. EachPair (IsMethodWritten file) stated methods.now)) }
+    ensures written { IfOk result (λ stated. Adds section.old section.new (λ file. EachPair (IsMethodWritten file) stated methods.now)) }
+    ensures passed { IfOk result (λ stated. Adds section.old section.new (λ file. MethodsPass file stated outs.now)) }
 {
     let mut all = List::new(alloc);
     for (number, method) in methods.iter().enumerate() {
-        let passed = outs.get(number).copied().unwrap_or(0);
-        let stated = add_method(section, passed, method)?;
+        let stated = add_method(section, passed_by(outs, number), method)?;
         all.push(stated)?;
     }
     Ok(all)
@@ -61,6 +72,7 @@ fn add_class(
 ) -> Result<ClassRow, Memory>
     ensures same { IfOk result (λ row. IsSameClass row stated.now) }
     ensures written { IfOk result (λ row. Adds section.old section.new (λ file. IsClassWritten file ids.now row class.now)) }
+    ensures passed { IfOk result (λ row. Adds section.old section.new (λ file. ClassPasses file row class.now outs.now)) }
 {
     small_class(class);
     let methods = add_methods(alloc, section, class.methods.as_slice(), outs)?;
@@ -96,6 +108,7 @@ fn add_numbered(
 ) -> Result<ClassRow, Memory>
     ensures same { IfOk result (λ row. IsSameClass row stated.now) }
     ensures written { IfOk result (λ row. Adds section.old section.new (λ file. WhereGiven (IsClassWritten file ids.now row) (option_copied class.entry))) }
+    ensures passed { IfOk result (λ row. Adds section.old section.new (λ file. WhereGiven (λ class. ClassPasses file row class outs.now) (option_copied class.entry))) }
 {
     match class {
         Some(class) => add_class(alloc, section, ids, stated, class, outs),
@@ -104,7 +117,9 @@ fn add_numbered(
 }
 
 /// The most arguments that the code of each method of a class passes.
-fn passed(outs: &Outs, number: usize) -> &[u16] {
+fn passed(outs: &Outs, number: usize) -> &[u16]
+    ensures { (passed : List ℕ) → slice_get outs.now number ≡ Some passed → result.now ≡ passed }
+{
     match outs.get(number) {
         Some(passed) => passed.as_slice(),
         None => &[],
@@ -122,6 +137,7 @@ pub fn add_classes(
 ) -> Result<ClassRows, Memory>
     ensures same { IfOk result (λ rows. EachPair IsSameClass rows definitions.now) }
     ensures written { IfOk result (λ rows. Adds section.old section.new (λ file. AreFirstWritten file ids.now rows classes.now)) }
+    ensures passed { IfOk result (λ rows. Adds section.old section.new (λ file. ClassesPass file rows classes.now outs.now)) }
 {
     let mut rows = List::new(alloc);
     for (number, stated) in definitions.iter().enumerate() {

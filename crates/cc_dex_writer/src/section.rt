@@ -2,14 +2,14 @@
 
 ghost use Rattle.std.specs.Prelude.{◌≡◌, ◌+◌, ◌%◌, ◌^◌, ◌<◌, [], Some, IfOk, OnOk};
 ghost use Rattle.cc_meaning_dex.specs.Texts.{SpellsText};
-ghost use Rattle.cc_meaning_builder.specs.Written.{CodeWritten};
+ghost use Rattle.cc_meaning_builder.specs.Written.{CodePasses, CodeWritten};
 ghost use Rattle.cc_dex_writer.specs.Layout.{data_start_of};
 ghost use Rattle.cc_dex_writer.specs.Items.{MembersStand, TypesStand, ValuesStand};
 ghost use Rattle.cc_dex_writer.specs.Section.{Adds, Grows, PutStands, end_of};
 
 use crate::data_start;
 use crate::widths::small_units;
-use cc_builder_laws::{stands_apart, written_text, written_types};
+use cc_builder_laws::{stands_apart, written_text, written_types, written_u16};
 use cc_items::{put_code, put_members, put_text, put_types, put_values};
 use cc_list::List;
 use cc_meaning::fault::Memory;
@@ -114,9 +114,12 @@ impl Section {
     /// Adds a code item, at a multiple of 4. `outs` is the most arguments that the code passes.
     pub fn add_code(&mut self, outs: u16, code: &RawCode) -> Result<u32, Memory>
         ensures stands { IfOk result (λ at. Adds self.old self.new (λ file. CodeWritten file at (Some code.now))) }
+        ensures passed { IfOk result (λ at. Adds self.old self.new (λ file. CodePasses file at outs)) }
         ensures aligned { IfOk result (λ at. at % 4 ≡ 0) }
     {
         put_stands();
+        stands_apart();
+        written_u16();
         self.align()?;
         let at = self.end()?;
         put_code(&mut self.bytes, outs, code)?;

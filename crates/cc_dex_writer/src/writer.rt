@@ -51,7 +51,7 @@ pub fn write_file(
 ) -> Result<Bytes, Memory>
     requires few { length ids.now.texts < 2 ^ 32 }
     requires ordered { AreOrdered ids.now }
-    ensures { IfOk result (IsFileOf ids.now classes.now) }
+    ensures { IfOk result (IsFileOf ids.now classes.now outs.now) }
 {
     fitting_rows_are_small();
     let mut section = Section::new(alloc, ids);

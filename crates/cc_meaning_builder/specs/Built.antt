@@ -2,6 +2,7 @@
 use Rattle.std.specs.Prelude.{◌≡◌, ◌⊎◌, ℕ, ◌≤◌, ◌<◌, pos, true, false, List, length, take, slice_get, Option, Some, None, All, Contains}
 use Rattle.cc_meaning.specs.declared.fault.DexFault.{DexFault}
 use Rattle.cc_meaning.specs.declared.fault.DexFault.TheVariants as fault
+use Rattle.cc_meaning.specs.declared.file.ClassRow.{ClassRow}
 use Rattle.cc_meaning.specs.declared.file.Ids.{Ids}
 use Rattle.cc_meaning.specs.declared.file.RawClass.{RawClass}
 use Rattle.cc_meaning.specs.declared.file.RawCode.{RawCode}
@@ -14,14 +15,16 @@ use Rattle.cc_meaning_dex.specs.Ids.{SpellsIds}
 use Rattle.cc_meaning_dex.specs.Causes.{IsFirstCause}
 use Rattle.cc_meaning_dex.specs.Classes.{EachPair, SpellsClasses}
 use Rattle.cc_meaning_dex.specs.CodeItems.{argument_registers, has_no_code}
+use Rattle.cc_meaning_dex.specs.Members.{SpellsMembers}
 use Rattle.cc_meaning_dex.specs.Values.{field_kind}
+use Rattle.cc_meaning_dex.specs.declared.items.Members.{Members}
 use Rattle.cc_meaning_dex.specs.declared.items.ValueKind.{ValueKind}
 use Rattle.cc_meaning_dex.specs.declared.items.ValueKind.TheVariants as kind
 use Rattle.cc_meaning_builder.specs.declared.content.ListedClass.{ListedClass}
 use Rattle.cc_meaning_builder.specs.Forms.{is_unit, is_within, static_fields}
-use Rattle.cc_meaning_builder.specs.Members.{AreRawClasses}
+use Rattle.cc_meaning_builder.specs.Members.{AreOuts, AreRawClasses}
 use Rattle.cc_meaning_builder.specs.Tables.{AreTables}
-use Rattle.cc_meaning_builder.specs.Written.{AreSameTables, FitsFormat}
+use Rattle.cc_meaning_builder.specs.Written.{AreSameTables, FitsFormat, HasNoSections, MethodsPass}
 
 -- ---- whether what was added suits
 
@@ -77,19 +80,31 @@ IsAdded ids classes other = ⊥
 
 -- ---- the file
 
+-- the items of code state this of each method of each class, in the order in which the file has them
+abbrev pub SpellsOuts : List ℕ → Ids → List (List ℕ) → Type 0
+SpellsOuts file ids outs =
+    (place : ℕ) (stated : ClassRow) (passed : List ℕ) (members : Members) → slice_get ids.classes place ≡ Some stated → slice_get outs place ≡ Some passed → SpellsMembers file ids stated members →
+    MethodsPass file members.methods passed
+
 -- What a file of these tables and classes is when it is read again. Its header and tables have no fault, and are these tables, with offsets of members and
--- values besides; its classes have none but where they were added with it; and where they suit, they are what the file spells.
-pub record IsReadAgain (ids : Ids) (classes : List RawClass) (file : List ℕ) : Type 0 where
+-- values besides; its classes have none but where they were added with it; and where they suit, they are what the file spells. Its code items state what
+-- their code passes, and its header neither a link section nor a map.
+pub record IsReadAgain (ids : Ids) (classes : List RawClass) (outs : List (List ℕ)) (file : List ℕ) : Type 0 where
   pub read : Ids
   pub same : AreSameTables read ids
   pub spelled : SpellsIds file read
   pub faults : (fault : DexFault) → IsFirstCause file read fault → IsAdded read classes fault
   pub suited : All (IsSuited read) classes → SpellsClasses file read classes
+  pub passed : SpellsOuts file read outs
+  pub sections : HasNoSections file
 
--- The file that is built from what was added: tables of all that is named, and the members in a file's form; within the bounds of the format it is read again.
+-- The file that is built from what was added: tables of all that is named, the members in a file's form, and what the code of each method passes; within the
+-- bounds of the format it is read again.
 pub record Built (content : List ListedClass) (file : List ℕ) : Type 0 where
   pub ids : Ids
   pub classes : List RawClass
+  pub outs : List (List ℕ)
   pub tables : AreTables content ids
   pub members : AreRawClasses content ids classes
-  pub again : FitsFormat file ids classes → IsReadAgain ids classes file
+  pub passed : AreOuts ids content classes outs
+  pub again : FitsFormat file ids classes → IsReadAgain ids classes outs file

@@ -118,5 +118,5 @@ WrittenValues = (file : List ℕ) (ids : Ids) (stated : ClassRow) (class : RawCl
 
 -- what is written for what was added is read again
 abbrev pub WrittenIsReadAgain : Type 0
-WrittenIsReadAgain = (content : List ListedClass) (ids : Ids) (classes : List RawClass) (file : List ℕ) → WellNamed content → AreTables content ids → AreRawClasses content ids classes →
-    FitsFormat file ids classes → IsWritten ids classes file → IsReadAgain ids classes file
+WrittenIsReadAgain = (content : List ListedClass) (ids : Ids) (classes : List RawClass) (outs : List (List ℕ)) (file : List ℕ) → WellNamed content → AreTables content ids → AreRawClasses content ids classes →
+    FitsFormat file ids classes → IsWritten ids classes outs file → IsReadAgain ids classes outs file

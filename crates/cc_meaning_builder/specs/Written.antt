@@ -1,5 +1,5 @@
 -- What stands in a file that is written for tables and classes, and whether these are within the bounds of the format.
-use Rattle.std.specs.Prelude.{◌≡◌, ◌≢◌, ◌⊎◌, ℕ, ◌-◌, ◌^◌, ◌<◌, ◌≤◌, true, List, [], length, Option, Some, None, All}
+use Rattle.std.specs.Prelude.{◌≡◌, ◌≢◌, ◌⊎◌, ℕ, ◌+◌, ◌-◌, ◌^◌, ◌<◌, ◌≤◌, true, List, [], length, slice_get, Option, Some, None, All}
 use Rattle.cc_meaning.specs.declared.file.ClassRow.{ClassRow}
 use Rattle.cc_meaning.specs.declared.file.Ids.{Ids}
 use Rattle.cc_meaning.specs.declared.file.RawCatch.{RawCatch}
@@ -11,7 +11,7 @@ use Rattle.cc_meaning.specs.declared.file.RawTry.{RawTry}
 use Rattle.cc_meaning.specs.declared.program.StaticValue.{StaticValue}
 use Rattle.cc_meaning.specs.declared.program.StaticValue.TheVariants as static
 use Rattle.cc_meaning_dex.specs.Ids.{TablesSpelled}
-use Rattle.cc_meaning_dex.specs.Numbers.{Stands}
+use Rattle.cc_meaning_dex.specs.Numbers.{Stands, u16_at, u32_at}
 use Rattle.cc_meaning_dex.specs.Tables.{IsHeader, HasTables, longest_file}
 use Rattle.cc_meaning_dex.specs.Classes.{EachPair}
 use Rattle.cc_meaning_dex.specs.declared.items.StatedMethod.{StatedMethod}
@@ -109,6 +109,35 @@ pub record IsClassWritten (file : List ℕ) (ids : Ids) (stated : ClassRow) (cla
   pub members : AreMembersWritten file stated class
   pub values : AreValuesWritten file ids stated class
 
+-- ---- what code passes
+
+-- the item at this offset states that the invokes of its code pass at most so many registers (`outs_size`); at offset 0 there is no item
+abbrev pub CodePasses : List ℕ → ℕ → ℕ → Type 0
+CodePasses file at outs = at ≢ 0 → u16_at file (at + 4) ≡ outs
+
+-- each method's code passes what stands at its place
+abbrev pub MethodsPass : List ℕ → List StatedMethod → List ℕ → Type 0
+MethodsPass file methods outs =
+    (place : ℕ) (method : StatedMethod) → slice_get methods place ≡ Some method → (passed : ℕ) → slice_get outs place ≡ Some passed → CodePasses file method.code_at passed
+
+-- the members of a class are written, and the code of its methods passes this
+pub record ClassPasses (file : List ℕ) (stated : ClassRow) (class : RawClass) (outs : List ℕ) : Type 0 where
+  pub members : AreMembersWritten file stated class
+  pub passed : MethodsPass file members.methods outs
+
+abbrev pub ClassesPass : List ℕ → List ClassRow → List RawClass → List (List ℕ) → Type 0
+ClassesPass file rows classes outs =
+    (place : ℕ) (stated : ClassRow) → slice_get rows place ≡ Some stated → (class : RawClass) (passed : List ℕ) → slice_get classes place ≡ Some class → slice_get outs place ≡ Some passed →
+    ClassPasses file stated class passed
+
+-- ---- the whole file
+
+-- the header states neither a link section nor a map
+pub record HasNoSections (file : List ℕ) : Type 0 where
+  pub link_size : u32_at file 44 ≡ 0
+  pub link_at : u32_at file 48 ≡ 0
+  pub map_at : u32_at file 52 ≡ 0
+
 -- definitions that differ in no more than where members and values stand
 pub record IsSameClass (this that : ClassRow) : Type 0 where
   pub class : this.class ≡ that.class
@@ -124,12 +153,15 @@ pub record AreSameTables (this that : Ids) : Type 0 where
   pub methods : this.methods ≡ that.methods
   pub classes : EachPair IsSameClass this.classes that.classes
 
--- A file that is written for tables and classes: its header and its tables are sound, and each item stands where the tables say.
-pub record IsWritten (ids : Ids) (classes : List RawClass) (file : List ℕ) : Type 0 where
+-- A file that is written for tables and classes: its header and its tables are sound, and each item stands where the tables say. The code of each method of
+-- each class passes what `outs` says.
+pub record IsWritten (ids : Ids) (classes : List RawClass) (outs : List (List ℕ)) (file : List ℕ) : Type 0 where
   -- the tables with the offsets that were found
   pub written : Ids
   pub same : AreSameTables written ids
   pub header : IsHeader file
+  pub sections : HasNoSections file
   pub tables : HasTables file
   pub spelled : TablesSpelled file written
   pub members : EachPair (IsClassWritten file written) written.classes classes
+  pub passed : ClassesPass file written.classes classes outs
