@@ -1,0 +1,14 @@
+pub mod Renaming
+pub mod Order
+pub mod Entry
+pub mod Ends
+pub mod Spelling
+pub mod Numbers
+pub mod Items
+pub mod Runs
+pub mod Backs
+pub mod Fits
+pub mod Answers
+pub mod Decoding
+pub mod Placing
+pub mod Putting
