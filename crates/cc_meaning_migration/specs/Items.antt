@@ -1,5 +1,5 @@
 -- Reading the parts of images: values, what was made for literals and class constants, and objects.
-use Rattle.std.specs.Prelude.{ℕ, zero, suc, ◌==◌, ◌&&◌, ◌||◌, nat_le, nat_lt, not, Bool, true, false, cond, List, [], ◌∷◌, ◌++◌, length, map, filter, Option, Some, None, slice_get, codes}
+use Rattle.std.specs.Prelude.{ℕ, zero, suc, ◌==◌, ◌&&◌, ◌||◌, nat_le, nat_lt, not, Bool, true, false, cond, List, [], ◌∷◌, ◌++◌, length, map, filter, Option, Some, None, slice_get, codes, ℤ}
 use Rattle.std.specs.List.{list_any}
 use Rattle.std.specs.Str.{bytes_eq}
 use Rattle.std.specs.Int.{w16, w32, w64, cast_signed}
@@ -27,7 +27,7 @@ use Rattle.cc_meaning_migration.specs.Numbers.{Spot, Got, got, wrong, reading, a
 -- ---- values
 
 -- Whether a number of a kind is in its range. Fields, elements and statics are held to it; arguments and results aren't.
-unfoldable pub is_in_range : (is_held : Bool) → Kind → _
+unfoldable pub is_in_range : (is_held : Bool) → Kind → ℤ → Bool
 is_in_range false k n = true
 is_in_range true k n = is_same_int (kept_bits k n) n
 

@@ -1,5 +1,5 @@
 -- The order in which the objects of a state are numbered: those of a front, and then each object where it is first mentioned.
-use Rattle.std.specs.Prelude.{◌≡◌, ◌⊎◌, ℕ, zero, suc, ◌<◌, ◌==◌, cond, List, [], ◌∷◌, ◌++◌, length, map, Option, Some, None, slice_get}
+use Rattle.std.specs.Prelude.{◌≡◌, ◌⊎◌, ℕ, zero, suc, ◌<◌, ◌==◌, Bool, cond, List, [], ◌∷◌, ◌++◌, length, map, Option, Some, None, slice_get}
 use Rattle.std.specs.List.{flat_map, list_any}
 use Rattle.cc_meaning.specs.declared.value.Made.{Made}
 use Rattle.cc_meaning.specs.declared.value.Object.{Object}
@@ -32,7 +32,7 @@ mentioned_by objects a = mentions (members_of (slice_get objects a))
 
 -- ---- the order
 
-unfoldable pub stands_in : ℕ → List ℕ → _
+unfoldable pub stands_in : ℕ → List ℕ → Bool
 stands_in a list = list_any (λ (b : ℕ). b == a) list
 
 -- a list without what stands in another, and without what came before in it
