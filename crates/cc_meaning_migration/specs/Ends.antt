@@ -17,6 +17,7 @@ use Rattle.cc_meaning.specs.declared.value.Value.{Value}
 use Rattle.cc_meaning.specs.declared.value.Value.TheVariants as value
 use Rattle.cc_meaning_world.specs.World.{World}
 use Rattle.cc_meaning_rows.specs.Calls.{is_same_object}
+use Rattle.cc_meaning_exec.specs.Exceptions.{End, Returned, Thrown, Stopped, Jammed}
 use Rattle.cc_meaning_exec.specs.Numbers.{is_same_int}
 use Rattle.cc_meaning_migration.specs.declared.image.BackImage.{BackImage}
 use Rattle.cc_meaning_migration.specs.declared.image.Change.{Change}
@@ -102,6 +103,21 @@ changes_from v before i (now ∷ rest) =
 -- what objects hold, with each object by its number
 unfoldable pub contents_now : (ℕ → Option ℕ) → List Object → List ℕ → Option (List Contents)
 contents_now f objects numbers = each (λ a. if_some (slice_get objects a) (λ o. rename_contents f (contents_of o))) numbers
+
+-- ---- ends
+
+-- how a method ended, as it is sent; well-typed code never jams
+unfoldable pub sent_end : End → Option CallEnd
+sent_end (Returned v) = Some (end.Returned v)
+sent_end (Thrown a) = Some (end.Thrown a)
+sent_end (Stopped cause) = Some (end.Stopped cause)
+sent_end Jammed = None
+
+-- an end that was sent
+unfoldable pub end_of_sent : CallEnd → End
+end_of_sent (end.Returned v) = Returned v
+end_of_sent (end.Thrown a) = Thrown a
+end_of_sent (end.Stopped cause) = Stopped cause
 
 -- ---- the image
 

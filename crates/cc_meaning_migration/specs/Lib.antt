@@ -12,3 +12,5 @@ pub mod Answers
 pub mod Decoding
 pub mod Placing
 pub mod Putting
+pub mod Forms
+pub mod Laws
