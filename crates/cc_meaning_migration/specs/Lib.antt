@@ -14,3 +14,6 @@ pub mod Placing
 pub mod Putting
 pub mod Forms
 pub mod Laws
+pub mod WorkedPrograms
+pub mod WorkedEntries
+pub mod WorkedEnds
