@@ -145,3 +145,7 @@ back_image v p run front w order first_event ending =
     if_some (contents_now (number_in order) w.objects front) (λ now.
     if_some (copies (number_in order) w.objects (drop (length front) order)) (λ fresh.
     Some (back_by p w first_event ending' statics literals constants (changes_from v run.objects 0 now) fresh)))))))
+
+-- the image of an end, by the order that is found behind that of the entry
+unfoldable pub captured_end : Version → Program → (run : RunImage) → (front : List ℕ) → World → (first_event : ℕ) → CallEnd → Option BackImage
+captured_end v p run front w first_event ending = back_image v p run front w (end_order p front w ending) first_event ending

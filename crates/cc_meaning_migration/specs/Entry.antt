@@ -76,3 +76,7 @@ run_image p w order m args stack =
     if_some (rename_mades (number_in order) w.constants) (λ constants.
     if_some (copies (number_in order) w.objects order) (λ objects.
     Some (run_by p w m stack args' statics literals constants objects))))))
+
+-- the image of an entry, by the order that is found
+unfoldable pub captured_entry : Program → World → (method : ℕ) → List Value → Stack → Option RunImage
+captured_entry p w m args stack = run_image p w (entry_order p w args) m args stack

@@ -19,6 +19,8 @@ use Rattle.cc_meaning_migration.specs.Renaming.{numbers_from}
 use Rattle.cc_meaning_migration.specs.Order.{StandsIn, mentioned, IsOrder, order_of}
 use Rattle.cc_meaning_migration.specs.Entry.{is_sent, IsEntryOrder, run_image}
 use Rattle.cc_meaning_migration.specs.Ends.{made_since, sent_calls, IsEndOrder, back_image}
+use Rattle.cc_meaning_migration.specs.Backs.{object_numbered}
+use Rattle.cc_meaning_migration.specs.Fits.{Place, meets, unfit}
 use Rattle.cc_meaning_migration.specs.Decoding.{decoded_run, decoded_back}
 use Rattle.cc_meaning_migration.specs.Placing.{table_of, Placed, placed, stack_of}
 use Rattle.cc_meaning_migration.specs.Putting.{with_made, with_calls, Put, put}
@@ -45,11 +47,20 @@ abbrev pub BackIsRead : Type 0
 BackIsRead = (v : Version) (script : Script) (p : Program) (cursors : List ℕ) (run : RunImage) (bytes : List ℕ) (image : BackImage) → IsRun p run →
     BackSpells v p run bytes image → BackFits script p cursors run image → decoded_back v script p cursors run bytes ≡ Ok image
 
--- ---- the order
+-- ---- what doesn't fit
 
--- no number stands twice
-abbrev pub IsDistinct : List ℕ → Type 0
-IsDistinct list = (i j a : ℕ) → slice_get list i ≡ Some a → slice_get list j ≡ Some a → i ≡ j
+-- the object that is named is the least that doesn't fit a place which names it
+abbrev pub UnfitIsLeast : Type 0
+UnfitIsLeast = (p : Program) (objects : List Object) (places : List Place) (n : ℕ) → unfit p objects places ≡ Some n →
+    ((i : ℕ) (place : Place) → slice_get places i ≡ Some place → meets p place.need (object_numbered objects place.number) ≡ false → n ≤ place.number)
+    × ((i : ℕ) × (place : Place) × (slice_get places i ≡ Some place) × (place.number ≡ n) × (meets p place.need (object_numbered objects n) ≡ false))
+
+-- and where none is named, each fits
+abbrev pub NoneIsUnfit : Type 0
+NoneIsUnfit = (p : Program) (objects : List Object) (places : List Place) → unfit p objects places ≡ None →
+    (i : ℕ) (place : Place) → slice_get places i ≡ Some place → meets p place.need (object_numbered objects place.number) ≡ true
+
+-- ---- the order
 
 -- each object that is mentioned stands
 abbrev pub MentionedStand : List Object → (front roots order : List ℕ) → Type 0
@@ -57,7 +68,7 @@ MentionedStand objects front roots order = (a : ℕ) → StandsIn (mentioned obj
 
 -- there is an order
 abbrev pub OrderIsFound : Type 0
-OrderIsFound = (objects : List Object) (front roots : List ℕ) → IsDistinct front → MentionedStand objects front roots (order_of objects front roots) →
+OrderIsFound = (objects : List Object) (front roots : List ℕ) → MentionedStand objects front roots (order_of objects front roots) →
     IsOrder objects front roots (order_of objects front roots)
 
 -- and one only

@@ -1,5 +1,5 @@
 -- The bytes of images: each image of an entry has one spelling, and each image of an end one in each version. Numbers are big-endian.
-use Rattle.std.specs.Prelude.{ℕ, List, [], ◌∷◌, ◌++◌, length, Option, Some, None}
+use Rattle.std.specs.Prelude.{ℕ, zero, suc, List, [], ◌∷◌, ◌++◌, length, Option, Some, None}
 use Rattle.std.specs.List.{flat_map}
 use Rattle.std.specs.Int.{w16, w32, w64, to_be_bytes, cast_unsigned}
 use Rattle.cc_meaning.specs.declared.value.Value.{Value}
@@ -35,6 +35,19 @@ u8 n = to_be_bytes w64 n
 -- a count in four bytes, and the spellings of that many items
 abbrev pub counted : {A : Type 0} → (A → List ℕ) → List A → List ℕ
 counted spell items = u4 (length items) ++ flat_map spell items
+
+-- ---- versions
+
+-- the byte by which the two sides name a version
+unfoldable pub byte_of_version : Version → ℕ
+byte_of_version First = 1
+byte_of_version Second = 2
+
+-- the version that a byte names
+unfoldable pub version_of_byte : ℕ → Option Version
+version_of_byte (suc zero) = Some First
+version_of_byte (suc (suc zero)) = Some Second
+version_of_byte _ = None
 
 -- ---- values and objects
 

@@ -14,7 +14,7 @@ use Rattle.cc_meaning_migration.specs.declared.image.BackImage.{BackImage}
 use Rattle.cc_meaning_migration.specs.declared.image.Version.{Version}
 use Rattle.cc_meaning_migration.specs.declared.image.Version.TheVariants.{First, Second}
 use Rattle.cc_meaning_migration.specs.Renaming.{if_some}
-use Rattle.cc_meaning_migration.specs.Ends.{end_order, back_image}
+use Rattle.cc_meaning_migration.specs.Ends.{end_order, captured_end}
 use Rattle.cc_meaning_migration.specs.Spelling.{spelled_back}
 use Rattle.cc_meaning_migration.specs.Decoding.{decoded_back}
 use Rattle.cc_meaning_migration.specs.Putting.{Put, put}
@@ -39,7 +39,7 @@ abbrev pub ending : CallEnd
 ending = end.Returned (Some (to 3))
 
 unfoldable pub end_image : Version → Option BackImage
-end_image v = if_some (entered before 1) (λ run. back_image v program run front after (end_order program front after ending) 0 ending)
+end_image v = if_some (entered before 1) (λ run. captured_end v program run front after 0 ending)
 
 -- ---- bytes
 

@@ -7,7 +7,7 @@ use Rattle.cc_meaning.specs.declared.value.Object.{Object}
 use Rattle.cc_meaning.specs.declared.value.Object.TheVariants as object
 use Rattle.cc_meaning.specs.declared.value.Value.TheVariants as value
 use Rattle.cc_meaning_world.specs.World.{World}
-use Rattle.cc_meaning_migration.specs.Entry.{entry_order, run_image}
+use Rattle.cc_meaning_migration.specs.Entry.{entry_order, captured_entry}
 use Rattle.cc_meaning_migration.specs.Decoding.{decoded_run}
 use Rattle.cc_meaning_migration.specs.Placing.{table_of, Placed, placed, stack_of}
 use Rattle.cc_meaning_migration.specs.WorkedPrograms.{program, null, to, node, made, world_with, entered, sent, four, head_of, head, entry_bytes}
@@ -49,7 +49,7 @@ is_read_from bytes (Some image) = decoded_run program bytes ≡ Ok image
 -- the image that is taken in the world of an image
 unfoldable pub again_in : RunImage → Option Placed → Option RunImage
 again_in image None = None
-again_in image (Some at) = run_image program at.world (entry_order program at.world at.args) image.method at.args (stack_of image)
+again_in image (Some at) = captured_entry program at.world image.method at.args (stack_of image)
 
 unfoldable pub again : Option RunImage → Option RunImage
 again None = None

@@ -20,7 +20,7 @@ use Rattle.cc_meaning_world.specs.World.{World, Stack}
 use Rattle.cc_meaning_world.specs.Opening.{opening_world}
 use Rattle.cc_meaning_exec.specs.WorkedPrograms.{file_class, array_class_named, code, static_method, field_of, program_of, limits, type_of_base, int_type, class_type_of}
 use Rattle.cc_meaning_migration.specs.Spelling.{spelled_run}
-use Rattle.cc_meaning_migration.specs.Entry.{entry_order, run_image}
+use Rattle.cc_meaning_migration.specs.Entry.{captured_entry}
 
 -- ---- the program
 
@@ -94,7 +94,7 @@ stack = record { depth = 1; registers = 3 }
 
 -- the image of the entry of f with an object
 unfoldable pub entered : World → ℕ → Option RunImage
-entered w a = run_image program w (entry_order program w (to a ∷ [])) 1 (to a ∷ []) stack
+entered w a = captured_entry program w 1 (to a ∷ []) stack
 
 -- its bytes
 unfoldable pub sent : List Object → (literals constants : List Made) → ℕ → Option (List ℕ)
