@@ -1,11 +1,12 @@
 -- The laws of images: statements, which crates above prove.
-use Rattle.std.specs.Prelude.{◌≡◌, ◌≤◌, ◌<◌, ◌⊎◌, ℕ, Bool, true, false, List, [], ◌∷◌, ◌++◌, length, drop, Option, Some, None, Ok, slice_get, slice_index}
+use Rattle.std.specs.Prelude.{◌≡◌, ◌≤◌, ◌<◌, ◌⊎◌, ℕ, Bool, true, false, All, List, [], ◌∷◌, ◌++◌, length, drop, Option, Some, None, Ok, slice_get, slice_index}
 use Rattle.cc_meaning.specs.declared.image.RunImage.{RunImage}
 use Rattle.cc_meaning.specs.declared.program.Field.{Field}
 use Rattle.cc_meaning.specs.declared.program.Class.{Class}
 use Rattle.cc_meaning.specs.declared.program.Program.{Program}
 use Rattle.cc_meaning.specs.declared.report.CallEnd.{CallEnd}
 use Rattle.cc_meaning.specs.declared.script.Script.{Script}
+use Rattle.cc_meaning.specs.declared.value.Made.{Made}
 use Rattle.cc_meaning.specs.declared.value.Object.{Object}
 use Rattle.cc_meaning.specs.declared.value.Object.TheVariants as object
 use Rattle.cc_meaning.specs.declared.value.Value.{Value}
@@ -23,8 +24,8 @@ use Rattle.cc_meaning_migration.specs.Backs.{object_numbered}
 use Rattle.cc_meaning_migration.specs.Fits.{Place, meets, unfit}
 use Rattle.cc_meaning_migration.specs.Decoding.{decoded_run, decoded_back}
 use Rattle.cc_meaning_migration.specs.Placing.{table_of, Placed, placed, stack_of}
-use Rattle.cc_meaning_migration.specs.Putting.{with_made, with_calls, Put, put}
-use Rattle.cc_meaning_migration.specs.Forms.{mentioned_in_run, IsRun, RunSpells, RunFits, BackSpells, BackFits}
+use Rattle.cc_meaning_migration.specs.Putting.{table_behind, with_made, with_calls, Put, put}
+use Rattle.cc_meaning_migration.specs.Forms.{mentioned_in_run, IsRun, IsBack, RunSpells, RunFits, BackSpells, BackFits}
 
 -- ---- reading is spelling
 
@@ -128,6 +129,18 @@ PutGoesOn = (v : Version) (script : Script) (p : Program) (before after : World)
     (run : RunImage) (image : BackImage) → IsEntryOrder p before args front → run_image p before front m args stack ≡ Some run →
     IsEndOrder p front after ending order → GoesOn script p front before after order → back_image v p run front after order (length before.events) ending ≡ Some image →
     put script p before front image ≡ Some (record { ending = ending; world = after })
+
+-- new literals or class constants are new objects
+abbrev pub AreOfNew : RunImage → List Made → Type 0
+AreOfNew run mades = All (λ (made : Made). length run.objects < made.number) mades
+
+-- an image of an end that was put is captured again
+abbrev pub PutIsCaptured : Type 0
+PutIsCaptured = (v : Version) (script : Script) (p : Program) (before : World) (m : ℕ) (args : List Value) (stack : Stack) (front : List ℕ) (run : RunImage) (image : BackImage) (at : Put) →
+    IsEntryOrder p before args front → run_image p before front m args stack ≡ Some run → IsRun p run → IsBack v p run image → AreOfNew run image.literals → AreOfNew run image.constants →
+    put script p before front image ≡ Some at →
+    IsEndOrder p front at.world at.ending (table_behind front before image)
+    × (back_image v p run front at.world (table_behind front before image) (length before.events) at.ending ≡ Some image)
 
 -- both versions put the same
 abbrev pub VersionsAgree : Type 0
