@@ -28,7 +28,7 @@ use Rattle.cc_meaning_migration.specs.declared.image.Change.{Change}
 use Rattle.cc_meaning_migration.specs.declared.image.Version.{Version}
 use Rattle.cc_meaning_migration.specs.declared.image.Version.TheVariants.{First, Second}
 use Rattle.cc_meaning_migration.specs.Ends.{holds_same}
-use Rattle.cc_meaning_migration.specs.Numbers.{Spot, Got, got, wrong, reading, allowed, on_named, number, byte, object_named, items, counted_items}
+use Rattle.cc_meaning_migration.specs.Numbers.{Spot, Got, got, wrong, reading, allowed, on_named, number, byte, object_named, counted_items}
 use Rattle.cc_meaning_migration.specs.Items.{value_of_kind, values_of, units, mades, class_number, elements, objects_behind}
 use Rattle.cc_meaning_migration.specs.Runs.{argument_types, static_types}
 

@@ -8,7 +8,7 @@ use Rattle.cc_meaning.specs.declared.program.Program.{Program}
 use Rattle.cc_meaning.specs.declared.script.Script.{Script}
 use Rattle.cc_meaning_migration.specs.declared.image.BackImage.{BackImage}
 use Rattle.cc_meaning_migration.specs.declared.image.Version.{Version}
-use Rattle.cc_meaning_migration.specs.Numbers.{Spot, Got, got, wrong}
+use Rattle.cc_meaning_migration.specs.Numbers.{Got, got, wrong}
 use Rattle.cc_meaning_migration.specs.Runs.{read_run}
 use Rattle.cc_meaning_migration.specs.Backs.{read_back}
 use Rattle.cc_meaning_migration.specs.Fits.{unfit_in_run, run_counts, unfit_in_back, back_counts}

@@ -1,5 +1,5 @@
 -- The image of a state at a method's end: what the objects of the entry hold now, and the new ones behind them.
-use Rattle.std.specs.Prelude.{ℕ, suc, ◌==◌, ◌&&◌, not, Bool, true, false, cond, List, [], ◌∷◌, ◌++◌, length, drop, filter, Option, Some, None, option_map, slice_get}
+use Rattle.std.specs.Prelude.{ℕ, suc, ◌&&◌, not, Bool, true, false, cond, List, [], ◌∷◌, ◌++◌, length, drop, filter, Option, Some, None, slice_get}
 use Rattle.std.specs.Str.{bytes_eq}
 use Rattle.cc_meaning.specs.declared.image.Contents.{Contents}
 use Rattle.cc_meaning.specs.declared.image.Contents.TheVariants as contents
@@ -23,7 +23,7 @@ use Rattle.cc_meaning_migration.specs.declared.image.BackImage.{BackImage}
 use Rattle.cc_meaning_migration.specs.declared.image.Change.{Change}
 use Rattle.cc_meaning_migration.specs.declared.image.Version.{Version}
 use Rattle.cc_meaning_migration.specs.declared.image.Version.TheVariants.{First, Second}
-use Rattle.cc_meaning_migration.specs.Renaming.{if_some, each, rename_values, rename_mades, rename_object, rename_contents, rename_end, copies, number_in}
+use Rattle.cc_meaning_migration.specs.Renaming.{if_some, each, rename_values, rename_mades, rename_contents, rename_end, copies, number_in}
 use Rattle.cc_meaning_migration.specs.Order.{mention, mentions, made_objects, stands_in, IsOrder, order_of}
 use Rattle.cc_meaning_migration.specs.Entry.{file_statuses, sent_statics}
 

@@ -1,5 +1,5 @@
 -- The image of a state at a method's entry, by the order of its objects.
-use Rattle.std.specs.Prelude.{ℕ, ◌&&◌, not, Bool, cond, List, [], ◌∷◌, ◌++◌, Option, Some, None}
+use Rattle.std.specs.Prelude.{ℕ, ◌&&◌, not, Bool, cond, List, [], ◌∷◌, ◌++◌, Option, Some}
 use Rattle.std.specs.Str.{bytes_eq}
 use Rattle.cc_meaning.specs.declared.image.RunImage.{RunImage}
 use Rattle.cc_meaning.specs.declared.program.Class.{Class}

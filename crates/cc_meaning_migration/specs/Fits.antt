@@ -1,7 +1,6 @@
 -- Whether the objects of an image fit the places that name them, and its counters what was sent.
-use Rattle.std.specs.Prelude.{ℕ, ◌+◌, ◌-◌, ◌==◌, ◌&&◌, nat_le, min, Bool, true, false, cond, List, [], ◌∷◌, ◌++◌, length, Option, Some, None, slice_get, sum_by}
+use Rattle.std.specs.Prelude.{ℕ, ◌+◌, ◌-◌, ◌==◌, ◌&&◌, nat_le, min, Bool, false, cond, List, [], ◌∷◌, ◌++◌, length, Option, Some, None, slice_get, sum_by}
 use Rattle.std.specs.List.{flat_map, list_all}
-use Rattle.std.specs.Str.{bytes_eq}
 use Rattle.cc_meaning.specs.declared.image.Contents.{Contents}
 use Rattle.cc_meaning.specs.declared.image.Contents.TheVariants as contents
 use Rattle.cc_meaning.specs.declared.image.RunImage.{RunImage}
@@ -20,6 +19,8 @@ use Rattle.cc_meaning_typing.specs.Types.{held, reach, rises_to}
 use Rattle.cc_meaning_typing.specs.Code.{throwable_type}
 use Rattle.cc_meaning_world.specs.Sorts.{sort_of, type_of}
 use Rattle.cc_meaning_world.specs.Layouts.{shape}
+use Rattle.cc_meaning_world.specs.Acts.{units_of}
+use Rattle.cc_meaning_rows.specs.Calls.{is_text_of}
 use Rattle.cc_meaning_exec.specs.Frames.{most_frames, most_registers}
 use Rattle.cc_meaning_migration.specs.declared.image.BackImage.{BackImage}
 use Rattle.cc_meaning_migration.specs.declared.image.Change.{Change}
@@ -53,13 +54,9 @@ places_of _ _ = []
 unfoldable pub places_in : DexType → List Value → List Place
 places_in t values = flat_map (place_of t) values
 
-unfoldable pub units_or_none : Option (List ℕ) → List ℕ
-units_or_none None = []
-units_or_none (Some units) = units
-
 unfoldable pub literal_places : Program → List Made → List Place
 literal_places p [] = []
-literal_places p (made ∷ rest) = record { number = made.number; need = Spelled (units_or_none (slice_get p.texts made.what)) } ∷ literal_places p rest
+literal_places p (made ∷ rest) = record { number = made.number; need = Spelled (units_of (slice_get p.texts made.what)) } ∷ literal_places p rest
 
 unfoldable pub constant_places : List Made → List Place
 constant_places [] = []
@@ -119,10 +116,6 @@ back_places p run image =
 unfoldable pub fits_type : Program → Object → DexType → Bool
 fits_type p o declared = rises_to p (reach p (held p (type_of p (sort_of o)))) (held p (type_of p (sort_of o))) (held p declared)
 
-unfoldable pub is_text : List ℕ → Object → Bool
-is_text units (object.Text others) = bytes_eq units others
-is_text units _ = false
-
 unfoldable pub is_constant : ℕ → Object → Bool
 is_constant class (object.Constant other) = class == other
 is_constant class _ = false
@@ -130,7 +123,7 @@ is_constant class _ = false
 unfoldable pub meets : Program → Need → Option Object → Bool
 meets p need None = false
 meets p (Typed t) (Some o) = fits_type p o t
-meets p (Spelled units) (Some o) = is_text units o
+meets p (Spelled units) (Some o) = is_text_of units o
 meets p (ConstantOf class) (Some o) = is_constant class o
 
 unfoldable pub lesser : ℕ → Option ℕ → Option ℕ

@@ -1,5 +1,5 @@
 -- The laws of images: statements, which crates above prove.
-use Rattle.std.specs.Prelude.{◌≡◌, ◌≤◌, ◌<◌, ◌⊎◌, ℕ, Bool, true, false, All, List, [], ◌∷◌, ◌++◌, length, drop, Option, Some, None, Ok, slice_get, slice_index}
+use Rattle.std.specs.Prelude.{◌≡◌, ◌≤◌, ◌<◌, ◌⊎◌, ℕ, true, false, All, List, [], ◌∷◌, ◌++◌, length, drop, Some, None, Ok, slice_get, slice_index}
 use Rattle.cc_meaning.specs.declared.image.RunImage.{RunImage}
 use Rattle.cc_meaning.specs.declared.program.Field.{Field}
 use Rattle.cc_meaning.specs.declared.program.Class.{Class}

@@ -1,12 +1,11 @@
 -- Worked examples: images of ends in both versions, what is read of them, and what they make of the world of the entry.
-use Rattle.std.specs.Prelude.{◌≡◌, ℕ, ◌++◌, pos, List, [], ◌∷◌, Option, Some, None, option_map, Result, Ok, Err}
+use Rattle.std.specs.Prelude.{◌≡◌, ℕ, ◌++◌, pos, List, [], ◌∷◌, Option, Some, option_map, Result, Ok, Err}
 use Rattle.cc_meaning.specs.declared.fault.ImageFault.{ImageFault}
 use Rattle.cc_meaning.specs.declared.fault.ImageFault.TheVariants.{CutOff, Trailing, BadKind, BadRef, Unfit, BadCounter, Unanswered}
 use Rattle.cc_meaning.specs.declared.image.RunImage.{RunImage}
 use Rattle.cc_meaning.specs.declared.report.Answer.TheVariants as answer
 use Rattle.cc_meaning.specs.declared.report.CallEnd.{CallEnd}
 use Rattle.cc_meaning.specs.declared.report.CallEnd.TheVariants as end
-use Rattle.cc_meaning.specs.declared.value.Object.{Object}
 use Rattle.cc_meaning.specs.declared.value.Object.TheVariants as kinds
 use Rattle.cc_meaning_world.specs.World.{World}
 use Rattle.cc_meaning_world.specs.Changes.{with_instructions, with_words, with_answer}
@@ -18,7 +17,7 @@ use Rattle.cc_meaning_migration.specs.Ends.{end_order, captured_end}
 use Rattle.cc_meaning_migration.specs.Spelling.{spelled_back}
 use Rattle.cc_meaning_migration.specs.Decoding.{decoded_back}
 use Rattle.cc_meaning_migration.specs.Putting.{Put, put}
-use Rattle.cc_meaning_migration.specs.WorkedPrograms.{program, script, null, to, node, world_with, entered, four, eight}
+use Rattle.cc_meaning_migration.specs.WorkedPrograms.{program, script, to, node, world_with, entered, four, eight}
 
 -- two objects of A that name each other, before a call of f with the first
 abbrev pub before : World

@@ -1,15 +1,14 @@
 -- Worked examples: images of entries, their bytes, and what is read of them.
-use Rattle.std.specs.Prelude.{◌≡◌, ℕ, ◌++◌, pos, negsuc, List, [], ◌∷◌, Option, Some, None, Result, Ok, Err, codes}
+use Rattle.std.specs.Prelude.{◌≡◌, ℕ, ◌++◌, pos, negsuc, List, [], ◌∷◌, Option, Some, None, Ok, Err, codes}
 use Rattle.cc_meaning.specs.declared.fault.ImageFault.{ImageFault}
 use Rattle.cc_meaning.specs.declared.fault.ImageFault.TheVariants.{CutOff, Trailing, BadKind, BadRef, Unfit, BadCounter}
 use Rattle.cc_meaning.specs.declared.image.RunImage.{RunImage}
 use Rattle.cc_meaning.specs.declared.value.Object.{Object}
 use Rattle.cc_meaning.specs.declared.value.Object.TheVariants as object
 use Rattle.cc_meaning.specs.declared.value.Value.TheVariants as value
-use Rattle.cc_meaning_world.specs.World.{World}
 use Rattle.cc_meaning_migration.specs.Entry.{entry_order, captured_entry}
 use Rattle.cc_meaning_migration.specs.Decoding.{decoded_run}
-use Rattle.cc_meaning_migration.specs.Placing.{table_of, Placed, placed, stack_of}
+use Rattle.cc_meaning_migration.specs.Placing.{Placed, placed, stack_of}
 use Rattle.cc_meaning_migration.specs.WorkedPrograms.{program, null, to, node, made, world_with, entered, sent, four, head_of, head, entry_bytes}
 
 -- two objects of A that name each other, and one that nothing names

@@ -1,5 +1,5 @@
 -- A small program and its worlds, of which the worked examples speak.
-use Rattle.std.specs.Prelude.{ℕ, ◌++◌, pos, negsuc, true, false, List, [], ◌∷◌, map, Option, Some, None, codes, option_map}
+use Rattle.std.specs.Prelude.{ℕ, ◌++◌, pos, true, false, List, [], ◌∷◌, Option, Some, None, codes, option_map}
 use Rattle.cc_meaning.specs.declared.image.RunImage.{RunImage}
 use Rattle.cc_meaning.specs.declared.program.Base.TheVariants as base
 use Rattle.cc_meaning.specs.declared.program.Class.{Class}
@@ -9,7 +9,6 @@ use Rattle.cc_meaning.specs.declared.program.Method.{Method}
 use Rattle.cc_meaning.specs.declared.program.MethodKind.TheVariants as kinds
 use Rattle.cc_meaning.specs.declared.program.Program.{Program}
 use Rattle.cc_meaning.specs.declared.report.Answer.TheVariants as answer
-use Rattle.cc_meaning.specs.declared.script.Given.{Given}
 use Rattle.cc_meaning.specs.declared.script.Script.{Script}
 use Rattle.cc_meaning.specs.declared.value.Made.{Made}
 use Rattle.cc_meaning.specs.declared.value.Object.{Object}
