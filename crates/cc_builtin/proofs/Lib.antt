@@ -1,5 +1,5 @@
 pub mod InOrder
-pub mod Matches
+pub mod BracketsLeft
 pub mod Spending
 pub mod Effecting
 pub mod Ending

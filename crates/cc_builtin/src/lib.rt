@@ -12,5 +12,3 @@ mod texts;
 
 pub use calls::call;
 pub use lookup::is_rising;
-pub use matching::is_name;
-pub use rows::is_throwable;

@@ -5,7 +5,7 @@ ghost use Rattle.cc_meaning.specs.BuiltIn.{null_pointer_exception_name, string_i
 ghost use Rattle.cc_meaning.specs.Lookup.{class_named};
 ghost use Rattle.cc_meaning.specs.Order.{IsRisingByName};
 
-use crate::texts::ascii;
+use cc_built_in::units_of;
 use cc_meaning::lists::ClassIx;
 use cc_meaning::program::{Class, Program};
 use cc_program_names::class_named;
@@ -20,7 +20,7 @@ pub(crate) fn null_pointer_exception(
     requires rising { IsRisingByName program.now.classes }
     ensures { IfOk result (λ class. class ≡ class_named null_pointer_exception_name program.now) }
 {
-    let name = ascii(alloc, b"Ljava/lang/NullPointerException;")?;
+    let name = units_of(alloc, b"Ljava/lang/NullPointerException;")?;
     Ok(class_named(program, name.as_slice()))
 }
 
@@ -33,7 +33,7 @@ pub(crate) fn string_index_out_of_bounds_exception(
     requires rising { IsRisingByName program.now.classes }
     ensures { IfOk result (λ class. class ≡ class_named string_index_out_of_bounds_exception_name program.now) }
 {
-    let name = ascii(alloc, b"Ljava/lang/StringIndexOutOfBoundsException;")?;
+    let name = units_of(alloc, b"Ljava/lang/StringIndexOutOfBoundsException;")?;
     Ok(class_named(program, name.as_slice()))
 }
 

@@ -5,32 +5,13 @@ ghost use Rattle.std.specs.List.{flat_map};
 ghost use Rattle.std.specs.Option.{option_copied};
 ghost use Rattle.std.specs.Str.{bytes_eq};
 ghost use Rattle.cc_meaning.specs.Names.{class_name, base_descriptor, descriptor, result_descriptor, member_name};
-ghost use Rattle.cc_builtin.specs.Matching.{without};
+ghost use Rattle.cc_units.specs.Matching.{without};
 
 use cc_meaning::lists::ClassIx;
 use cc_meaning::program::{Base, DexType, Method, Program};
+use cc_units::behind;
 
-/// What is left of a text behind units, where it begins with them.
-#[tactic(auto, using(crate::proofs::Matches::nothing_left), unfolding(crate::specs::Matching::without))]
-fn behind<'a>(text: &'a [u8], units: &[u16]) -> Option<&'a [u8]>
-    ensures { option_copied result ≡ without text.now units.now }
-{
-    let mut rest = text;
-    for unit in units {
-        match rest.split_first() {
-            Some((first, more)) => {
-                if u16::from(*first) != *unit {
-                    return None;
-                }
-                rest = more;
-            }
-            None => return None,
-        }
-    }
-    Some(rest)
-}
-
-#[tactic(auto, using(crate::proofs::Matches::behind_both), unfolding(crate::specs::Matching::without))]
+#[tactic(auto, using(cc_units::proofs::Matches::behind_both), unfolding(cc_units::specs::Matching::without))]
 fn behind_class<'a>(text: &'a [u8], program: &Program, class: ClassIx) -> Option<&'a [u8]>
     ensures { option_copied result ≡ without text.now (class_name program.now class) }
 {
@@ -54,7 +35,7 @@ fn behind_base<'a>(text: &'a [u8], program: &Program, base: Base) -> Option<&'a 
     }
 }
 
-#[tactic(auto, using(crate::proofs::Matches::next_bracket, crate::proofs::Matches::no_bracket), unfolding(crate::specs::Matching::without))]
+#[tactic(auto, using(crate::proofs::BracketsLeft::next_bracket, crate::proofs::BracketsLeft::no_bracket), unfolding(cc_units::specs::Matching::without))]
 fn behind_brackets(text: &[u8], dims: u8) -> Option<&[u8]>
     ensures { option_copied result ≡ without text.now (replicate dims 91) }
 {
@@ -66,7 +47,7 @@ fn behind_brackets(text: &[u8], dims: u8) -> Option<&[u8]>
     Some(rest)
 }
 
-#[tactic(auto, using(crate::proofs::Matches::behind_both), unfolding(crate::specs::Matching::without))]
+#[tactic(auto, using(cc_units::proofs::Matches::behind_both), unfolding(cc_units::specs::Matching::without))]
 fn behind_type<'a>(text: &'a [u8], program: &Program, ty: &DexType) -> Option<&'a [u8]>
     ensures { option_copied result ≡ without text.now (descriptor program.now ty.now) }
 {
@@ -74,7 +55,7 @@ fn behind_type<'a>(text: &'a [u8], program: &Program, ty: &DexType) -> Option<&'
     behind_base(rest, program, ty.base)
 }
 
-#[tactic(auto, using(crate::proofs::Matches::next_type, crate::proofs::Matches::no_type), unfolding(crate::specs::Matching::without))]
+#[tactic(auto, using(cc_units::proofs::Matches::next_piece, cc_units::proofs::Matches::no_piece), unfolding(cc_units::specs::Matching::without))]
 fn behind_types<'a>(text: &'a [u8], program: &Program, types: &[DexType]) -> Option<&'a [u8]>
     ensures { option_copied result ≡ without text.now (flat_map (descriptor program.now) types.now) }
 {
@@ -94,7 +75,7 @@ fn behind_result<'a>(text: &'a [u8], program: &Program, answer: Option<DexType>)
     }
 }
 
-#[tactic(auto, using(crate::proofs::Matches::behind_both), unfolding(crate::specs::Matching::without))]
+#[tactic(auto, using(cc_units::proofs::Matches::behind_both), unfolding(cc_units::specs::Matching::without))]
 fn behind_member<'a>(text: &'a [u8], program: &Program, method: &Method) -> Option<&'a [u8]>
     ensures { option_copied result ≡ without text.now (member_name program.now method.now) }
 {
@@ -104,22 +85,11 @@ fn behind_member<'a>(text: &'a [u8], program: &Program, method: &Method) -> Opti
 }
 
 /// Whether a text is the name of a method within its class.
-#[tactic(auto, using(crate::proofs::Matches::whole_of, crate::proofs::Matches::not_whole))]
+#[tactic(auto, using(cc_units::proofs::Matches::whole_of, cc_units::proofs::Matches::not_whole))]
 pub(crate) fn is_member(program: &Program, method: &Method, text: &[u8]) -> bool
     ensures { result ≡ bytes_eq (member_name program.now method.now) text.now }
 {
     match behind_member(text, program, method) {
-        Some(rest) => rest.is_empty(),
-        None => false,
-    }
-}
-
-/// Whether a text is a name.
-#[tactic(auto, using(crate::proofs::Matches::whole_of, crate::proofs::Matches::not_whole))]
-pub fn is_name(units: &[u16], text: &[u8]) -> bool
-    ensures { result ≡ bytes_eq units.now text.now }
-{
-    match behind(text, units) {
         Some(rest) => rest.is_empty(),
         None => false,
     }

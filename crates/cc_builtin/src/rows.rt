@@ -1,16 +1,15 @@
 //! Which built-in method a method is.
 
-ghost use Rattle.std.specs.Prelude.{◌≡◌, take, drop};
-ghost use Rattle.std.specs.List.{list_any};
-ghost use Rattle.std.specs.Str.{bytes_eq};
-ghost use Rattle.cc_meaning.specs.BuiltIn.{BuiltInClass, built_in_throwables, is_built_in_throwable};
+ghost use Rattle.std.specs.Prelude.{◌≡◌};
 ghost use Rattle.cc_meaning.specs.Names.{member_name};
 ghost use Rattle.cc_meaning_builtin.specs.Rows.{object_rows, throwable_rows, message_rows, string_rows, string_builder_rows, print_stream_rows, array_rows, named_rows, rows_of, found_row, built_in, built_in_numbered};
 
-use crate::matching::{is_member, is_name};
+use crate::matching::is_member;
+use cc_built_in::is_built_in_throwable;
 use cc_meaning::lists::MethodIx;
 use cc_meaning::program::{Class, ClassKind, Method, Program};
 use cc_meaning_builtin::builtin::{BuiltIn, Printed};
+use cc_program_names::is_ascii;
 
 #[tactic(auto, unfolding(cc_meaning_builtin::specs::Rows::found_row, cc_meaning_builtin::specs::Rows::object_rows))]
 fn of_object(program: &Program, method: &Method) -> Option<BuiltIn>
@@ -149,70 +148,27 @@ fn of_array(program: &Program, method: &Method) -> Option<BuiltIn>
     None
 }
 
-/// Whether a name is one of the first throwables, with those below `RuntimeException`.
-#[tactic(auto, using(crate::proofs::Matches::bytes_eq_comm), unfolding(cc_meaning::specs::BuiltIn::built_in_throwables, cc_meaning::specs::BuiltIn::throwable_name, cc_meaning::specs::BuiltIn::exception_name, cc_meaning::specs::BuiltIn::error_name, cc_meaning::specs::BuiltIn::runtime_exception_name, cc_meaning::specs::BuiltIn::arithmetic_exception_name, cc_meaning::specs::BuiltIn::null_pointer_exception_name, cc_meaning::specs::BuiltIn::array_store_exception_name, cc_meaning::specs::BuiltIn::class_cast_exception_name, cc_meaning::specs::BuiltIn::index_out_of_bounds_exception_name, cc_meaning::specs::BuiltIn::negative_array_size_exception_name, cc_meaning::specs::BuiltIn::illegal_argument_exception_name))]
-fn is_first_throwable(name: &[u16]) -> bool
-    ensures { result ≡ list_any (λ (class : BuiltInClass). bytes_eq class.name name.now) (take 11 built_in_throwables) }
-{
-    is_name(name, b"Ljava/lang/Throwable;")
-        || is_name(name, b"Ljava/lang/Exception;")
-        || is_name(name, b"Ljava/lang/Error;")
-        || is_name(name, b"Ljava/lang/RuntimeException;")
-        || is_name(name, b"Ljava/lang/ArithmeticException;")
-        || is_name(name, b"Ljava/lang/NullPointerException;")
-        || is_name(name, b"Ljava/lang/ArrayStoreException;")
-        || is_name(name, b"Ljava/lang/ClassCastException;")
-        || is_name(name, b"Ljava/lang/IndexOutOfBoundsException;")
-        || is_name(name, b"Ljava/lang/NegativeArraySizeException;")
-        || is_name(name, b"Ljava/lang/IllegalArgumentException;")
-}
-
-/// Whether a name is one of the other throwables.
-#[tactic(auto, using(crate::proofs::Matches::bytes_eq_comm), unfolding(cc_meaning::specs::BuiltIn::built_in_throwables, cc_meaning::specs::BuiltIn::illegal_state_exception_name, cc_meaning::specs::BuiltIn::array_index_out_of_bounds_exception_name, cc_meaning::specs::BuiltIn::string_index_out_of_bounds_exception_name, cc_meaning::specs::BuiltIn::linkage_error_name, cc_meaning::specs::BuiltIn::virtual_machine_error_name, cc_meaning::specs::BuiltIn::no_class_def_found_error_name, cc_meaning::specs::BuiltIn::exception_in_initializer_error_name, cc_meaning::specs::BuiltIn::incompatible_class_change_error_name, cc_meaning::specs::BuiltIn::abstract_method_error_name, cc_meaning::specs::BuiltIn::stack_overflow_error_name))]
-fn is_other_throwable(name: &[u16]) -> bool
-    ensures { result ≡ list_any (λ (class : BuiltInClass). bytes_eq class.name name.now) (drop 11 built_in_throwables) }
-{
-    is_name(name, b"Ljava/lang/IllegalStateException;")
-        || is_name(name, b"Ljava/lang/ArrayIndexOutOfBoundsException;")
-        || is_name(name, b"Ljava/lang/StringIndexOutOfBoundsException;")
-        || is_name(name, b"Ljava/lang/LinkageError;")
-        || is_name(name, b"Ljava/lang/VirtualMachineError;")
-        || is_name(name, b"Ljava/lang/NoClassDefFoundError;")
-        || is_name(name, b"Ljava/lang/ExceptionInInitializerError;")
-        || is_name(name, b"Ljava/lang/IncompatibleClassChangeError;")
-        || is_name(name, b"Ljava/lang/AbstractMethodError;")
-        || is_name(name, b"Ljava/lang/StackOverflowError;")
-}
-
-/// Whether a name, as `Lc;`, is that of a built-in throwable.
-#[tactic(auto, using(crate::proofs::Matches::first_or_other))]
-pub fn is_throwable(name: &[u16]) -> bool
-    ensures { result ≡ is_built_in_throwable name.now }
-{
-    is_first_throwable(name) || is_other_throwable(name)
-}
-
 /// The built-in method that a method of a built-in class is.
 #[tactic(auto, unfolding(cc_meaning_builtin::specs::Rows::found_row, cc_meaning_builtin::specs::Rows::named_rows, cc_meaning::specs::BuiltIn::object_name, cc_meaning::specs::BuiltIn::string_name, cc_meaning::specs::BuiltIn::string_builder_name, cc_meaning::specs::BuiltIn::print_stream_name, cc_meaning::specs::BuiltIn::throwable_name))]
 fn of_class_named(name: &[u16], program: &Program, method: &Method) -> Option<BuiltIn>
     ensures { result ≡ found_row (member_name program.now method.now) (named_rows name.now) }
 {
-    if is_name(name, b"Ljava/lang/StringBuilder;") {
+    if is_ascii(name, b"Ljava/lang/StringBuilder;") {
         return of_string_builder(program, method);
     }
-    if is_name(name, b"Ljava/io/PrintStream;") {
+    if is_ascii(name, b"Ljava/io/PrintStream;") {
         return of_print_stream(program, method);
     }
-    if is_name(name, b"Ljava/lang/String;") {
+    if is_ascii(name, b"Ljava/lang/String;") {
         return of_string(program, method);
     }
-    if is_name(name, b"Ljava/lang/Object;") {
+    if is_ascii(name, b"Ljava/lang/Object;") {
         return of_object(program, method);
     }
-    if is_name(name, b"Ljava/lang/Throwable;") {
+    if is_ascii(name, b"Ljava/lang/Throwable;") {
         return of_message(program, method);
     }
-    if is_throwable(name) {
+    if is_built_in_throwable(name) {
         return of_throwable(program, method);
     }
     None

@@ -6,6 +6,7 @@ ghost use Rattle.std.specs.Option.{option_copied};
 ghost use Rattle.cc_meaning_builtin.specs.Printing.{unit_of, truth_units};
 ghost use Rattle.cc_builtin.specs.Parts.{text_at, builder_at, text_or_null_in, printed_in};
 
+use cc_built_in::units_of;
 use cc_heap::World;
 use cc_list::List;
 use cc_meaning::lists::{ObjId, Units};
@@ -49,30 +50,20 @@ pub(crate) fn copy(alloc: Global, units: &[u16]) -> Result<Units, AllocError>
     Ok(copy)
 }
 
-pub(crate) fn ascii(alloc: Global, text: &[u8]) -> Result<Units, AllocError>
-    ensures { IfOk result (λ units. units ≡ text.now) }
-{
-    let mut units = List::new(alloc);
-    for byte in text {
-        units.push(u16::from(*byte))?;
-    }
-    Ok(units)
-}
-
 fn decimal(alloc: Global, number: i64) -> Result<Units, AllocError>
     ensures { IfOk result (λ units. units ≡ signed_decimal number) }
 {
     let digits = number.to_string(alloc)?;
-    ascii(alloc, digits.as_bytes())
+    units_of(alloc, digits.as_bytes())
 }
 
 fn truth(alloc: Global, number: i32) -> Result<Units, AllocError>
     ensures { IfOk result (λ units. units ≡ truth_units number) }
 {
     if number == 0 {
-        ascii(alloc, b"false")
+        units_of(alloc, b"false")
     } else {
-        ascii(alloc, b"true")
+        units_of(alloc, b"true")
     }
 }
 
@@ -93,7 +84,7 @@ fn text_or_null(
     ensures { IfOk result (λ units. units ≡ text_or_null_in world.now.world.objects id) }
 {
     let Some(id) = id else {
-        return Ok(Some(ascii(alloc, b"null")?));
+        return Ok(Some(units_of(alloc, b"null")?));
     };
     match text(world, id) {
         Some(units) => Ok(Some(copy(alloc, units.as_slice())?)),

@@ -1,4 +1,3 @@
-pub mod BuiltInParts
 pub mod Certifying
 pub mod Defining
 pub mod Duplicating
@@ -12,4 +11,4 @@ pub mod Climbing
 pub mod FirstDefining
 pub mod Leading
 pub mod Numbering
-pub mod Tables
+pub mod Roots

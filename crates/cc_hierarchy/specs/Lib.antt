@@ -2,6 +2,5 @@ pub mod Members
 pub mod Graphs
 pub mod Indexes
 pub mod Judging
-pub mod Below
 pub mod Numbers
 pub mod FromTheTop

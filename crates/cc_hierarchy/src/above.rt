@@ -7,10 +7,10 @@ ghost use Rattle.cc_hierarchy.specs.Indexes.{Indexes};
 ghost use Rattle.cc_hierarchy.specs.Judging.{HasOneEach, IsNextAbove, ShowsAbove};
 
 use crate::definitions::Definitions;
-use crate::names::type_name;
 use cc_list::List;
 use cc_meaning::file::{ClassRow, Ids};
 use cc_meaning::lists::Rows;
+use cc_names::type_name;
 use std::alloc::{AllocError, Global};
 
 /// Adds the definition of the class of a row of types, where the file defines it.

@@ -11,10 +11,10 @@ ghost use Rattle.cc_meaning_program.specs.Outlines.{IsNumberOf, AreNumbersOf, Is
 ghost use Rattle.cc_hierarchy.specs.Numbers.{AreReady};
 
 use crate::Definitions;
-use crate::above_built_in::built_in_superclass;
 use crate::kinds::{is_exception, kind_of_class};
 use crate::numbers::{number_of, numbers_of_texts};
 use crate::sources::{Sources, roots_of};
+use cc_built_in::built_in_superclass;
 use cc_list::List;
 use cc_meaning::fault::Memory;
 use cc_meaning::file::{ClassRow, Ids};

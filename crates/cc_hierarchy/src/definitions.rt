@@ -7,10 +7,10 @@ ghost use Rattle.std.specs.Ordering.{nat_cmp};
 ghost use Rattle.cc_meaning_program.specs.Definitions.{Defines};
 ghost use Rattle.cc_hierarchy.specs.Indexes.{defined_name, Indexes, IsFirstOf};
 
-use crate::names::type_name;
 use cc_list::List;
 use cc_meaning::file::Ids;
 use cc_meaning::lists::Rows;
+use cc_names::type_name;
 use std::alloc::{AllocError, Global};
 use std::cmp::Ordering;
 

@@ -8,10 +8,10 @@ ghost use Rattle.cc_meaning_program.specs.ClassFaults.{IsDuplicate, NoneIs, Repe
 ghost use Rattle.cc_hierarchy.specs.Indexes.{Indexes};
 ghost use Rattle.cc_hierarchy.specs.Judging.{IsFirst, IsTakenName, RepeatsMember};
 
-use crate::built_in::is_built_in;
 use crate::definitions::{Definitions, defined_name};
 use crate::members::MemberTable;
 use crate::repeats::has_repeats;
+use cc_built_in::is_built_in;
 use cc_meaning::file::{Ids, RawClass, RawField, RawMethod};
 use std::alloc::{AllocError, Global};
 

@@ -5,7 +5,7 @@ ghost use Rattle.cc_meaning.specs.declared.file.Ids.{Ids};
 ghost use Rattle.cc_meaning_dex.specs.Descriptors.{begins_with};
 ghost use Rattle.cc_meaning_program.specs.Ancestry.{ends_in, is_exception, is_error, is_defined, outside_kind, kind_of_class};
 
-use crate::{is_built_in, spells};
+use cc_built_in::{is_built_in, spells};
 use cc_meaning::program::ClassKind;
 
 /// `[`, which begins an array's descriptor.
@@ -37,7 +37,7 @@ fn is_error(name: &[u16]) -> bool
     ends_in(name, b"Error;")
 }
 
-fn is_array(name: &[u16]) -> bool
+pub(crate) fn is_array(name: &[u16]) -> bool
     ensures { result ≡ begins_with 91 name.now }
 {
     match name.first() {

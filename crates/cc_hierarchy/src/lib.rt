@@ -2,8 +2,6 @@
 #![tactic(auto)]
 
 mod above;
-mod above_built_in;
-mod built_in;
 mod classes;
 mod components;
 mod cycles;
@@ -12,7 +10,6 @@ mod duplicates;
 mod judge;
 mod kinds;
 mod members;
-mod names;
 mod numbers;
 mod order;
 mod repeats;
@@ -20,7 +17,6 @@ mod search;
 mod sources;
 mod superclasses;
 
-pub use built_in::{is_built_in, spells};
 pub use classes::outlines;
 pub use definitions::Definitions;
 pub use judge::judge_classes;

@@ -4,9 +4,10 @@ ghost use Rattle.std.specs.Prelude.{◌≡◌, ◌^◌, ◌<◌, Some, Contains,
 ghost use Rattle.cc_meaning.specs.Order.{IsRising};
 ghost use Rattle.cc_hierarchy.specs.Numbers.{AreTextNumbers};
 
+use cc_built_in::units_of;
 use cc_list::List;
 use cc_meaning::file::Ids;
-use cc_meaning::lists::{ClassIx, Texts, Units};
+use cc_meaning::lists::{ClassIx, Texts};
 use cc_names::find;
 use std::alloc::{AllocError, Global};
 
@@ -25,17 +26,6 @@ pub(crate) fn numbers_of_texts(
         numbers.push(find(names, text.as_slice()))?;
     }
     Ok(numbers)
-}
-
-/// A text of ASCII as units.
-fn units_of(alloc: Global, text: &[u8]) -> Result<Units, AllocError>
-    ensures { IfOk result (λ units. units ≡ text.now) }
-{
-    let mut units = List::new(alloc);
-    for byte in text {
-        units.push(u16::from(*byte))?;
-    }
-    Ok(units)
 }
 
 /// The number of a class that is known to be there.

@@ -11,11 +11,19 @@ ghost use Rattle.cc_meaning_program.specs.Rows.{IsTypeRow};
 ghost use Rattle.cc_hierarchy.specs.Numbers.{AreRoots, AreReady};
 
 use crate::Definitions;
-use crate::above_built_in::{ERROR, EXCEPTION, OBJECT};
 use crate::numbers::number_of;
 use cc_meaning::file::{ClassRow, Ids};
 use cc_meaning::lists::{ClassIx, Texts};
 use std::alloc::{AllocError, Global};
+
+/// `Object`, which stands above arrays and all other classes.
+const OBJECT: &[u8] = b"Ljava/lang/Object;";
+
+/// `Exception`, which stands above outside classes whose names end so.
+const EXCEPTION: &[u8] = b"Ljava/lang/Exception;";
+
+/// `Error`, which stands above outside classes whose names end so.
+const ERROR: &[u8] = b"Ljava/lang/Error;";
 
 /// The numbers of the classes that stand above arrays and outside classes.
 #[derive(Clone, Copy)]

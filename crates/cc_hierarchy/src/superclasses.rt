@@ -2,16 +2,16 @@
 
 ghost use Rattle.std.specs.Prelude.{◌≡◌, ◌<◌, ◌↔◌, ◌^◌, ◌==◌, length, slice_index, IsTrue, IfOk, MatchOption};
 ghost use Rattle.cc_meaning.specs.BuiltIn.{string_name, string_builder_name};
-ghost use Rattle.cc_meaning_dex.specs.Descriptors.{begins_with};
 ghost use Rattle.cc_meaning_program.specs.Definitions.{is_interface, IsInterface};
 ghost use Rattle.cc_meaning_program.specs.ClassFaults.{HasNoSuperclass, IsClosed, LacksSuperclass, NoneIs};
 ghost use Rattle.cc_hierarchy.specs.Indexes.{Indexes};
 ghost use Rattle.cc_hierarchy.specs.Judging.{HasOneEach, IsFirst};
 
-use crate::built_in::spells;
 use crate::definitions::Definitions;
-use crate::names::type_name;
+use crate::kinds::is_array;
+use cc_built_in::spells;
 use cc_meaning::file::{ClassRow, Ids};
+use cc_names::type_name;
 
 const INTERFACE: u32 = 0x200;
 
@@ -34,15 +34,6 @@ fn names_interface(ids: &Ids, definitions: &Definitions, name: &[u16]) -> bool
     };
     match ids.classes.get(number as usize) {
         Some(stated) => is_interface(stated),
-        None => false,
-    }
-}
-
-fn is_array(name: &[u16]) -> bool
-    ensures { result ≡ begins_with 91 name.now }
-{
-    match name.first() {
-        Some(unit) => *unit == 91,
         None => false,
     }
 }

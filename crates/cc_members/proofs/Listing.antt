@@ -13,7 +13,7 @@ use Rattle.cc_meaning.specs.declared.program.ClassKind.TheVariants as kind
 use Rattle.cc_built_in.specs.BuiltInMethods.{BuiltInMethods, built_in_tables, built_in_member, methods_of_table, array_methods}
 use Rattle.cc_meaning_program.specs.OwnMembers.{built_in_by_kind}
 use Rattle.cc_meaning_program.specs.Members.{out_member}
-use Rattle.cc_members.specs.ListedNames.{listed_members, listed_at}
+use Rattle.cc_members.specs.ListedNames.{listed_members, listed_at, listed_text}
 
 -- ---- the first place
 
@@ -117,7 +117,7 @@ pub of_built_in : (class : List ℕ) →
 unfolding listed_members built_in_by_kind
 of_built_in class = at_place built_in_tables (map built_in_member (array_methods []) ∷ (out_member ∷ []) ∷ []) class
 
-pub of_array : (class : List ℕ) → listed_at listed_members (Some 26) ≡ map built_in_member (built_in_by_kind kind.Array class)
+pub of_array : (class : List ℕ) → listed_at listed_members (Some (length (map (λ (table : BuiltInMethods). table.class) built_in_tables))) ≡ map built_in_member (built_in_by_kind kind.Array class)
 unfolding listed_members listed_at built_in_by_kind array_methods built_in_tables built_in_member
 of_array class = refl
 
@@ -129,6 +129,10 @@ of_others class kind.Outside not_built_in not_array = refl
 of_others class kind.OutsideError not_built_in not_array = refl
 of_others class kind.Array not_built_in not_array = absurd (not_array refl)
 
-pub few_classes : length (map (λ (table : BuiltInMethods). table.class) built_in_tables) < 4294967296
+pub of_out : listed_text listed_members (length (map (λ (table : BuiltInMethods). table.class) built_in_tables) + 1) 0 ≡ out_member
+unfolding listed_text listed_at listed_members built_in_tables
+of_out = refl
+
+pub few_classes : length (map (λ (table : BuiltInMethods). table.class) built_in_tables) + 1 < 4294967296
 unfolding built_in_tables
 few_classes = omega arith

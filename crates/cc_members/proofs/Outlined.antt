@@ -6,15 +6,13 @@ use Rattle.cc_meaning.specs.declared.file.Ids.{Ids}
 use Rattle.cc_meaning.specs.declared.file.RawClass.{RawClass}
 use Rattle.cc_meaning.specs.declared.file.RawField.{RawField}
 use Rattle.cc_meaning.specs.declared.file.RawMethod.{RawMethod}
-use Rattle.cc_meaning.specs.BuiltIn.{system_name}
 use Rattle.cc_meaning_program.specs.Named.{method_member, field_member}
-use Rattle.cc_built_in.specs.BuiltInMethods.{BuiltInMethod, BuiltInMethods, built_in_tables, built_in_member}
+use Rattle.cc_built_in.specs.BuiltInMethods.{BuiltInMethod, built_in_member}
 use Rattle.cc_meaning_program.specs.OwnMembers.{members_of, built_in_by_kind, built_in_methods_of}
-use Rattle.cc_meaning_program.specs.Members.{out_member}
 use Rattle.cc_meaning_program.specs.declared.outline.Outline.{Outline}
 use Rattle.cc_meaning_program.specs.Outlines.{AreOutlines, IsOutline, definition_number}
 use Rattle.cc_meaning_program.specs.Plans.{name_at, raw_method_member, raw_field_member, listed_member}
-use Rattle.cc_members.specs.ListedNames.{listed_at, listed_text, listed_members}
+use Rattle.cc_members.specs.ListedNames.{listed_at, listed_text}
 
 pub there_at : (names : List (List ℕ)) (number : ℕ) → number < length names → slice_get names number ≡ Some (name_at names number)
 unfolding name_at
@@ -73,11 +71,3 @@ pub field_none : (ids : Ids) (o : Option RawField) → None ≡ option_map (λ (
 unfolding raw_field_member
 field_none ids None e = refl
 field_none ids (Some raw) e = absurd (cc)
-
-pub out_named : listed_text listed_members 27 0 ≡ out_member
-unfolding listed_text listed_at listed_members built_in_tables
-out_named = refl
-
-pub system_at : slice_get (map (λ (table : BuiltInMethods). table.class) built_in_tables) 23 ≡ Some system_name
-unfolding built_in_tables
-system_at = refl

@@ -1,6 +1,7 @@
 -- The names within their classes of the members that built-in classes and arrays list, and of `System.out`.
 use Rattle.std.specs.Prelude.{◌≡◌, ℕ, List, [], ◌∷◌, ◌++◌, map, Option, Some, None, slice_get, unwrap_or}
 use Rattle.cc_built_in.specs.BuiltInMethods.{BuiltInMethods, built_in_tables, array_methods, built_in_member}
+use Rattle.cc_meaning.specs.BuiltIn.{system_name}
 use Rattle.cc_meaning_program.specs.Members.{out_member}
 use Rattle.cc_members.specs.declared.planned_built_in.Listings.{Listings}
 
@@ -11,6 +12,7 @@ listed_members = map (λ (table : BuiltInMethods). map built_in_member table.met
 pub record AreListings (listings : Listings) : Type 0 where
   pub classes : listings.classes ≡ map (λ (table : BuiltInMethods). table.class) built_in_tables
   pub members : listings.members ≡ listed_members
+  pub system : listings.system ≡ system_name
 
 -- the members at a place
 unfoldable pub listed_at : List (List (List ℕ)) → Option ℕ → List (List ℕ)

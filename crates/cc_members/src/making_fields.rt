@@ -16,7 +16,8 @@ ghost use Rattle.cc_members.specs.FieldPremises.{PlanFields, HaveFieldNames, Are
 ghost use Rattle.cc_members.specs.MadeFields.{FieldCanBeMade, FieldOfRow, FieldMade, OutOf};
 ghost use Rattle.cc_members.specs.Stated.{FieldRowStands, members_at};
 
-use crate::sources::{Sources, ascii, linked_type};
+use crate::sources::{Sources, linked_type};
+use cc_built_in::units_of;
 use cc_list::List;
 use cc_meaning::fault::Memory;
 use cc_meaning::file::{Ids, RawClasses, RawField};
@@ -74,7 +75,7 @@ impl Sources<'_> {
         requires typed { (ty : DexType) × Spells self.now.names.now ty print_stream_name }
         ensures { IfOk result (OutOf self.now.names.now owner) }
     {
-        let name = ascii(alloc, OUT)?;
+        let name = units_of(alloc, OUT)?;
         let Some(ty) = self.spelled(alloc, PRINT_STREAM)? else {
             unreachable!();
         };

@@ -14,15 +14,17 @@ ghost use Rattle.cc_meaning_program.specs.ClassNames.{AreClassNames};
 ghost use Rattle.cc_members.specs.MethodPremises.{ArePlannedMethods, HaveMethodNames, LinkFile, PlanMethods};
 ghost use Rattle.cc_meaning_program.specs.TypeNames.{Spells};
 ghost use Rattle.cc_meaning_program.specs.Members.{Pairs, is_static_call, is_virtual_call};
-ghost use Rattle.cc_members.specs.Listed.{listed_in};
+ghost use Rattle.cc_built_in.specs.Listed.{method_of};
 ghost use Rattle.cc_members.specs.MadeMethods.{IsSpelled, KindCanBeMade, KindMade, ListedStands, MethodCanBeMade, MethodIs, MethodMade, MethodOfListed, MethodOfRow, MethodRowStands, SourceTakes, listed_at};
 ghost use Rattle.cc_members.specs.Stated.{members_at};
 ghost use Rattle.std.specs.Option.{option_copied};
 
-use crate::made_built_in::{Listed, method_listed};
-use crate::sources::{Sources, ascii, linked_type};
+use crate::made_built_in::method_listed;
+use crate::sources::{Sources, linked_type};
 use crate::taking::take_body;
 use cc_bodies::{Bodies, link_code, sound_code_is_linkable};
+use cc_built_in::table::ListedMethod;
+use cc_built_in::units_of;
 use cc_list::List;
 use cc_meaning::fault::Memory;
 use cc_meaning::file::{Ids, RawClasses, RawMethod};
@@ -198,14 +200,14 @@ impl<'a> Sources<'a> {
         &self,
         alloc: Global,
         owner: ClassIx,
-        listed: &Listed,
+        listed: &ListedMethod,
     ) -> Result<Method, AllocError>
         requires few { length self.now.names.now < 2 ^ 32 }
         requires rise { IsRising self.now.names.now }
-        requires stands { (class : List ℕ) × ListedStands self.now.names.now (listed_in class listed.now) }
-        ensures { IfOk result (λ method. (class : List ℕ) → MethodOfListed self.now.names.now owner (listed_in class listed.now) method) }
+        requires stands { (class : List ℕ) × ListedStands self.now.names.now (method_of class listed.now) }
+        ensures { IfOk result (λ method. (class : List ℕ) → MethodOfListed self.now.names.now owner (method_of class listed.now) method) }
     {
-        let name = ascii(alloc, listed.name)?;
+        let name = units_of(alloc, listed.name)?;
         let params = self.spelled_types(alloc, listed.params)?;
         let result = self.spelled(alloc, listed.result)?;
         Ok(Method {

@@ -1,156 +1,84 @@
 //! The members that built-in classes and arrays list, and `System.out`.
 
-ghost use Rattle.std.specs.Prelude.{◌≡◌, ◌<◌, ◌^◌, ℕ, List, map, length, position, IfOk};
+ghost use Rattle.std.specs.Prelude.{◌≡◌, ◌∷◌, [], ◌<◌, ◌+◌, ◌^◌, ℕ, List, map, length, position, IfOk};
 ghost use Rattle.std.specs.Str.{bytes_eq};
 ghost use Rattle.cc_meaning.specs.BuiltIn.{system_name};
 ghost use Rattle.cc_built_in.specs.BuiltInMethods.{built_in_member};
+ghost use Rattle.cc_built_in.specs.Listed.{members_listed};
+ghost use Rattle.cc_built_in.specs.declared.table.ListedClass.{ListedClass};
+ghost use Rattle.cc_meaning_program.specs.Members.{out_member};
 ghost use Rattle.cc_meaning_program.specs.OwnMembers.{built_in_by_kind};
 ghost use Rattle.cc_members.specs.ListedNames.{AreListings, listed_at, listed_text};
 
+use cc_built_in::table::{ListedClass, ListedMethod};
+use cc_built_in::{array_methods, built_in_classes, built_in_names, units_of};
 use cc_list::List;
 use cc_meaning::lists::{Texts, Units};
 use cc_meaning::program::ClassKind;
-use cc_names::ascii_names;
 use std::alloc::{AllocError, Global};
 
-/// The built-in classes, in the order of their names.
-const CLASSES: [&[u8]; 26] = [
-    b"Ljava/io/PrintStream;",
-    b"Ljava/lang/AbstractMethodError;",
-    b"Ljava/lang/ArithmeticException;",
-    b"Ljava/lang/ArrayIndexOutOfBoundsException;",
-    b"Ljava/lang/ArrayStoreException;",
-    b"Ljava/lang/ClassCastException;",
-    b"Ljava/lang/Error;",
-    b"Ljava/lang/Exception;",
-    b"Ljava/lang/ExceptionInInitializerError;",
-    b"Ljava/lang/IllegalArgumentException;",
-    b"Ljava/lang/IllegalStateException;",
-    b"Ljava/lang/IncompatibleClassChangeError;",
-    b"Ljava/lang/IndexOutOfBoundsException;",
-    b"Ljava/lang/LinkageError;",
-    b"Ljava/lang/NegativeArraySizeException;",
-    b"Ljava/lang/NoClassDefFoundError;",
-    b"Ljava/lang/NullPointerException;",
-    b"Ljava/lang/Object;",
-    b"Ljava/lang/RuntimeException;",
-    b"Ljava/lang/StackOverflowError;",
-    b"Ljava/lang/String;",
-    b"Ljava/lang/StringBuilder;",
-    b"Ljava/lang/StringIndexOutOfBoundsException;",
-    b"Ljava/lang/System;",
-    b"Ljava/lang/Throwable;",
-    b"Ljava/lang/VirtualMachineError;",
-];
+const SYSTEM: &[u8] = b"Ljava/lang/System;";
 
-const PRINT_STREAM: &[&[u8]] = &[
-    b"print(C)V",
-    b"print(I)V",
-    b"print(J)V",
-    b"print(Ljava/lang/String;)V",
-    b"print(Z)V",
-    b"println()V",
-    b"println(C)V",
-    b"println(I)V",
-    b"println(J)V",
-    b"println(Ljava/lang/String;)V",
-    b"println(Z)V",
-];
+/// `System.out`, as printed within its class.
+const OUT: &[u8] = b"out:Ljava/io/PrintStream;";
 
-const OBJECT: &[&[u8]] = &[b"<init>()V", b"equals(Ljava/lang/Object;)Z"];
-
-const STRING: &[&[u8]] = &[b"charAt(I)C", b"equals(Ljava/lang/Object;)Z", b"length()I"];
-
-const STRING_BUILDER: &[&[u8]] = &[
-    b"<init>()V",
-    b"<init>(Ljava/lang/String;)V",
-    b"append(C)Ljava/lang/StringBuilder;",
-    b"append(I)Ljava/lang/StringBuilder;",
-    b"append(J)Ljava/lang/StringBuilder;",
-    b"append(Ljava/lang/String;)Ljava/lang/StringBuilder;",
-    b"append(Z)Ljava/lang/StringBuilder;",
-    b"toString()Ljava/lang/String;",
-];
-
-const TOP_THROWABLE: &[&[u8]] = &[
-    b"<init>()V",
-    b"<init>(Ljava/lang/String;)V",
-    b"getMessage()Ljava/lang/String;",
-];
-
-/// What each throwable below `Throwable` lists.
-const THROWABLE: &[&[u8]] = &[b"<init>()V", b"<init>(Ljava/lang/String;)V"];
-
-const ARRAY: &[&[u8]] = &[b"clone()Ljava/lang/Object;"];
-
-const SYSTEM_OUT: &[&[u8]] = &[b"out:Ljava/io/PrintStream;"];
-
-/// The place of `System` among the classes.
-const SYSTEM: usize = 23;
-
-/// The place of the members of arrays.
-const ARRAY_TABLE: u32 = 26;
-
-/// The place of `System.out`.
-pub(crate) const OUT_TABLE: u32 = 27;
-
-/// The members that the built-in classes list, class by class in their order, then those of arrays, then `System.out`.
-const MEMBERS: [&[&[u8]]; 28] = [
-    PRINT_STREAM,
-    THROWABLE,
-    THROWABLE,
-    THROWABLE,
-    THROWABLE,
-    THROWABLE,
-    THROWABLE,
-    THROWABLE,
-    THROWABLE,
-    THROWABLE,
-    THROWABLE,
-    THROWABLE,
-    THROWABLE,
-    THROWABLE,
-    THROWABLE,
-    THROWABLE,
-    THROWABLE,
-    OBJECT,
-    THROWABLE,
-    THROWABLE,
-    STRING,
-    STRING_BUILDER,
-    THROWABLE,
-    &[],
-    TOP_THROWABLE,
-    THROWABLE,
-    ARRAY,
-    SYSTEM_OUT,
-];
-
-/// The built-in classes, and their members' names within them.
+/// The names of the built-in classes in their order, the names of members within them, and that of `System`. Members stand class by class in that order,
+/// then those of arrays, then `System.out`.
 #[derive(Drop)]
 pub struct Listings {
     pub(crate) classes: Texts,
     pub(crate) members: List<Texts>,
+    pub(crate) system: Units,
 }
 
-/// These lists of names in ASCII, as units.
-fn ascii_lists(alloc: Global, lists: &[&[&[u8]]]) -> Result<List<Texts>, AllocError>
-    ensures { IfOk result (λ texts. texts ≡ map (λ names. map (λ name. name.now) names.now) lists.now) }
+/// The names of methods within their class.
+fn names_of(alloc: Global, methods: &[ListedMethod]) -> Result<Texts, AllocError>
+    ensures { IfOk result (λ names. names ≡ members_listed methods.now) }
 {
-    let mut texts = List::new(alloc);
-    for names in lists {
-        texts.push(ascii_names(alloc, names)?)?;
+    let mut names = List::new(alloc);
+    for method in methods {
+        names.push(units_of(alloc, method.member)?)?;
     }
-    Ok(texts)
+    Ok(names)
+}
+
+/// The names of the methods of classes, class by class.
+fn names_of_each(alloc: Global, classes: &[ListedClass]) -> Result<List<Texts>, AllocError>
+    ensures { IfOk result (λ names. names ≡ map (λ (class : ListedClass). members_listed class.methods.now) classes.now) }
+{
+    let mut names = List::new(alloc);
+    for class in classes {
+        names.push(names_of(alloc, class.methods)?)?;
+    }
+    Ok(names)
+}
+
+/// The name of `System.out` within its class, alone.
+fn name_of_out(alloc: Global) -> Result<Texts, AllocError>
+    ensures { IfOk result (λ names. names ≡ out_member ∷ []) }
+{
+    let mut names = List::new(alloc);
+    let out = units_of(alloc, OUT)?;
+    names.push(out)?;
+    Ok(names)
 }
 
 /// The classes and their members.
 pub fn known_listings(alloc: Global) -> Result<Listings, AllocError>
     ensures { IfOk result AreListings }
 {
-    let classes = ascii_names(alloc, &CLASSES)?;
-    let members = ascii_lists(alloc, &MEMBERS)?;
-    Ok(Listings { classes, members })
+    let classes = built_in_names(alloc)?;
+    let mut members = names_of_each(alloc, built_in_classes())?;
+    let arrays = names_of(alloc, array_methods())?;
+    members.push(arrays)?;
+    let out = name_of_out(alloc)?;
+    members.push(out)?;
+    let system = units_of(alloc, SYSTEM)?;
+    Ok(Listings {
+        classes,
+        members,
+        system,
+    })
 }
 
 /// The place of a name among names, where it stands there.
@@ -169,6 +97,23 @@ fn place_among(names: &[Units], name: &[u16]) -> Option<u32>
 }
 
 impl Listings {
+    /// The place of the members of arrays, which is behind those of all classes.
+    fn array_table(&self) -> u32
+        requires { AreListings self.now }
+        ensures is { result ≡ length self.now.classes }
+        ensures few { result + 1 < 2 ^ 32 }
+    {
+        self.classes.len() as u32
+    }
+
+    /// The place of `System.out`, which is behind arrays.
+    pub fn out_table(&self) -> u32
+        requires { AreListings self.now }
+        ensures { listed_text self.now.members result 0 ≡ out_member }
+    {
+        self.array_table() + 1
+    }
+
     /// Where the members stand that the class of a name lists itself, by what it is.
     pub fn table_of(&self, kind: ClassKind, class: &[u16]) -> Option<u32>
         requires { AreListings self.now }
@@ -176,7 +121,7 @@ impl Listings {
     {
         match kind {
             ClassKind::BuiltIn => place_among(self.classes.as_slice(), class),
-            ClassKind::Array => Some(ARRAY_TABLE),
+            ClassKind::Array => Some(self.array_table()),
             _ => None,
         }
     }
@@ -214,9 +159,6 @@ impl Listings {
         requires { AreListings self.now }
         ensures { result.now ≡ system_name }
     {
-        match self.classes.get(SYSTEM) {
-            Some(name) => name.as_slice(),
-            None => &[],
-        }
+        self.system.as_slice()
     }
 }

@@ -19,7 +19,7 @@ ghost use Rattle.cc_members.specs.Named.{member_text, named_text};
 
 use crate::named::{Member, Named, Names, compare_named};
 use crate::order::first_in_order;
-use crate::planned_built_in::{OUT_TABLE, known_listings};
+use crate::planned_built_in::known_listings;
 use crate::tables::{Tables, count_of};
 use cc_list::List;
 use cc_meaning::fault::Memory;
@@ -81,7 +81,7 @@ impl Tables<'_> {
                 None => Member::Missing,
             },
             FieldSource::Out => Member::Listed {
-                table: OUT_TABLE,
+                table: self.names.listings.out_table(),
                 place: 0,
             },
             FieldSource::Outside { row } => Member::Field(row),

@@ -7,9 +7,10 @@ ghost use Rattle.cc_meaning.specs.declared.program.DexType.{DexType};
 ghost use Rattle.cc_members.specs.Stated.{definition_at, members_at};
 ghost use Rattle.std.specs.Option.{option_copied};
 
+use cc_built_in::units_of;
 use cc_list::List;
 use cc_meaning::file::{Ids, RawClass, RawClasses};
-use cc_meaning::lists::{ClassIx, Texts, Units};
+use cc_meaning::lists::{ClassIx, Texts};
 use cc_meaning::program::DexType;
 use cc_meaning_program::{Links, Outlines};
 use cc_names::type_of;
@@ -48,7 +49,7 @@ impl<'a> Sources<'a> {
         requires rise { IsRising self.now.names.now }
         ensures { IfOk result (IsTypeOf self.now.names.now text.now) }
     {
-        let described = ascii(alloc, text)?;
+        let described = units_of(alloc, text)?;
         Ok(type_of(self.names, described.as_slice()))
     }
 }
@@ -62,15 +63,4 @@ pub fn linked_type(types: &List<Option<DexType>>, row: u32) -> DexType
         Some(Some(ty)) => *ty,
         _ => unreachable!(),
     }
-}
-
-/// A text in ASCII, as units.
-pub fn ascii(alloc: Global, text: &[u8]) -> Result<Units, AllocError>
-    ensures { IfOk result (λ units. units ≡ text.now) }
-{
-    let mut units = List::new(alloc);
-    for byte in text {
-        units.push(u16::from(*byte))?;
-    }
-    Ok(units)
 }

@@ -1,21 +1,20 @@
 -- Candidates, and the names that they have.
-use Rattle.std.proofs.Common.{◌≤◌, ◌≡◌, ◌↔◌, ◌⊎◌, inl, inr, ℕ, zero, suc, ◌+◌, ◌*◌, ◌<◌, Bool, true, false, cond, ◌||◌, List, [], ◌∷◌, ◌++◌, length, map, get_or, take, slice_get, unwrap_or, Option, Some, refl, sym, ap, subst, ◌∙◌, append_assoc, arith}
+use Rattle.std.proofs.Common.{◌≤◌, ◌≡◌, ◌↔◌, ◌⊎◌, inl, inr, ℕ, zero, suc, ◌+◌, ◌*◌, ◌<◌, Bool, true, false, cond, List, [], ◌∷◌, ◌++◌, length, map, get_or, take, slice_get, unwrap_or, Option, Some, refl, sym, ap, subst, ◌∙◌, append_assoc, arith}
 use Rattle.std.specs.Prelude.{Contains, option_and_then}
-use Rattle.std.specs.List.{list_any, flat_map}
-use Rattle.std.specs.Str.{bytes_eq}
+use Rattle.std.specs.List.{flat_map}
 use Rattle.std.proofs.lemmas.List.{length-append, length-map, map_push, map-append, take_more, get_or_default}
 use Rattle.std.proofs.lemmas.List.Elements.{Contains-get_or, Contains-append_left, Contains-append_right, Contains-append_cases}
-use Rattle.std.proofs.lemmas.Slice.Eq.{bytes_eq-Decides}
 use Rattle.std.proofs.lemmas.Option.{slice_get-get_or}
 use Rattle.cc_meaning.specs.declared.file.Ids.{Ids}
-use Rattle.cc_meaning.specs.BuiltIn.{BuiltInClass, built_in_classes, built_in_plain_classes, built_in_throwables, is_built_in}
+use Rattle.cc_meaning.specs.BuiltIn.{is_built_in}
+use Rattle.cc_built_in.specs.BuiltInMethods.{BuiltInMethods, built_in_tables}
 use Rattle.cc_meaning_dex.specs.Descriptors.{names_class, names_reference}
 use Rattle.cc_meaning_program.specs.Named.{text_of, type_name}
 use Rattle.cc_meaning_program.specs.ClassNames.{base_name, texts_name, IsClassName, AreClassNames, listed, element, built_in, texts}
 use Rattle.cc_names.specs.declared.classes.Candidate.{Candidate}
 use Rattle.cc_names.specs.declared.classes.Candidate.TheVariants.{Whole, Base, Known}
 use Rattle.cc_names.specs.InOrder.{AreInOrder}
-use Rattle.cc_names.specs.Candidates.{known_names, candidate_name, whole_of, base_of, candidates_of}
+use Rattle.cc_names.specs.Candidates.{AreKnown, candidate_name, whole_of, base_of, candidates_of}
 use Rattle.cc_names.proofs.Ordered.{contains_mapped, mapped_from}
 
 -- ---- names that every program has
@@ -99,48 +98,22 @@ of_rows ids known (row ∷ rows) name =
 
 -- ---- built-in classes
 
-abbrev names_of : List BuiltInClass → List (List ℕ)
-names_of classes = map (λ (class : BuiltInClass). class.name) classes
-
-abbrev is_any : List BuiltInClass → List ℕ → Bool
-is_any classes name = list_any (λ (class : BuiltInClass). bytes_eq class.name name) classes
-
-one_of : (class : BuiltInClass) (classes : List BuiltInClass) (name : List ℕ) (b : Bool) → bytes_eq class.name name ≡ b → (b || is_any classes name) ≡ true →
-    (is_any classes name ≡ true → Contains (names_of classes) name) → Contains (names_of (class ∷ classes)) name
-one_of class classes name true same is rest = (0, omega arith, (bytes_eq-Decides class.name name).0 same)
-one_of class classes name false same is rest = let (k, within, at) = rest is in (suc k, omega arith, at)
-
-any_of : (class : BuiltInClass) (classes : List BuiltInClass) (name : List ℕ) (b : Bool) → bytes_eq class.name name ≡ b → Contains (names_of (class ∷ classes)) name →
-    (Contains (names_of classes) name → is_any classes name ≡ true) → (b || is_any classes name) ≡ true
-any_of class classes name true same here rest = refl
-any_of class classes name false same (zero, within, is) rest = absurd (let e : bytes_eq class.name name ≡ true = (bytes_eq-Decides class.name name).1 is in cc)
-any_of class classes name false same (suc k, within, is) rest = rest (k, omega arith, is)
-
-any_named : (classes : List BuiltInClass) (name : List ℕ) → (is_any classes name ≡ true) ↔ Contains (names_of classes) name
-any_named [] name = (λ is. absurd cc, λ (k, within, is). absurd (omega arith))
-any_named (class ∷ classes) name =
-    let rest = any_named classes name in
-    (λ is. one_of class classes name (bytes_eq class.name name) refl is rest.0, λ here. any_of class classes name (bytes_eq class.name name) refl here rest.1)
-
 single : (a b : List ℕ) → Contains (a ∷ []) b → a ≡ b
 single a b (zero, within, is) = is
 single a b (suc k, within, is) = absurd (omega arith)
 
-known_is : (name : List ℕ) → Contains known_names name ↔ ((is_built_in name ≡ true) ⊎ (name ≡ texts_name))
-unfolding known_names
-known_is name = (λ here. which (Contains-append_cases (names_of built_in_classes) (texts_name ∷ []) name here), λ is. there is)
+-- the names of the built-in classes, and behind them that of the array of texts
+pub known_are : (names : List (List ℕ)) → ((name : List ℕ) → Contains names name ↔ (is_built_in name ≡ true)) → names ≡ map (λ (table : BuiltInMethods). table.class) built_in_tables → AreKnown (names ++ texts_name ∷ [])
+unfolding built_in_tables
+known_are names all are = record { are = λ name. (λ here. which name (Contains-append_cases names (texts_name ∷ []) name here), λ is. there name is); few = omega (arith, length-append names (texts_name ∷ []), ap length are) }
   where
-    which : Contains (names_of built_in_classes) name ⊎ Contains (texts_name ∷ []) name → (is_built_in name ≡ true) ⊎ (name ≡ texts_name)
-    which (inl here) = inl ((any_named built_in_classes name).1 here)
-    which (inr here) = inr (sym (single texts_name name here))
+    which : (name : List ℕ) → Contains names name ⊎ Contains (texts_name ∷ []) name → (is_built_in name ≡ true) ⊎ (name ≡ texts_name)
+    which name (inl here) = inl ((all name).0 here)
+    which name (inr here) = inr (sym (single texts_name name here))
 
-    there : (is_built_in name ≡ true) ⊎ (name ≡ texts_name) → Contains (names_of built_in_classes ++ texts_name ∷ []) name
-    there (inl is) = Contains-append_left (names_of built_in_classes) (texts_name ∷ []) name ((any_named built_in_classes name).0 is)
-    there (inr is) = subst (Contains (names_of built_in_classes ++ texts_name ∷ [])) (sym is) (Contains-append_right (names_of built_in_classes) (texts_name ∷ []) texts_name (0, omega arith, refl))
-
-pub count_known : length known_names ≡ 27
-unfolding known_names built_in_classes built_in_plain_classes built_in_throwables
-count_known = refl
+    there : (name : List ℕ) → (is_built_in name ≡ true) ⊎ (name ≡ texts_name) → Contains (names ++ texts_name ∷ []) name
+    there name (inl is) = Contains-append_left names (texts_name ∷ []) name ((all name).1 is)
+    there name (inr is) = subst (Contains (names ++ texts_name ∷ [])) (sym is) (Contains-append_right names (texts_name ∷ []) texts_name (0, omega arith, refl))
 
 -- ---- how many candidates there are
 
@@ -181,25 +154,25 @@ given_is_class ids row name (type, within, at) (base is) =
     let same = type_name_is ids type row within at in
     subst (λ n. IsClassName ids (base_name n)) same (element within (subst (λ n. names_class (base_name n) ≡ true) (sym same) is))
 
-class_is_given : (ids : Ids) (name : List ℕ) → IsClassName ids name → ((row : ℕ) × Contains ids.types row × Gives ids row name) ⊎ Contains known_names name
-class_is_given ids name (listed {type} within is) =
+class_is_given : (ids : Ids) (known : List (List ℕ)) (name : List ℕ) → AreKnown known → IsClassName ids name → ((row : ℕ) × Contains ids.types row × Gives ids row name) ⊎ Contains known name
+class_is_given ids known name are (listed {type} within is) =
     let text = get_or ids.types type 0 in
     let same = type_name_is ids type text within (get_or_default ids.types type text 0 within) in
     inl (text, Contains-get_or ids.types type 0 within, subst (Gives ids text) (sym same) (whole (subst (λ n. names_reference n ≡ true) same is)))
-class_is_given ids name (element {type} within is) =
+class_is_given ids known name are (element {type} within is) =
     let text = get_or ids.types type 0 in
     let same = type_name_is ids type text within (get_or_default ids.types type text 0 within) in
     inl (text, Contains-get_or ids.types type 0 within, subst (λ n. Gives ids text (base_name n)) (sym same) (base (subst (λ n. names_class (base_name n) ≡ true) same is)))
-class_is_given ids name (built_in is) = inr ((known_is name).1 (inl is))
-class_is_given ids name texts = inr ((known_is texts_name).1 (inr refl))
+class_is_given ids known name are (built_in is) = inr ((are.are name).1 (inl is))
+class_is_given ids known name are texts = inr ((are.are texts_name).1 (inr refl))
 
 -- the candidates' names in order are those of the classes
-pub names_are_classes : (ids : Ids) (known : List (List ℕ)) (rows : List ℕ) (all sorted : List Candidate) → known ≡ known_names → ((row : ℕ) → Contains rows row ↔ Contains ids.types row) →
+pub names_are_classes : (ids : Ids) (known : List (List ℕ)) (rows : List ℕ) (all sorted : List Candidate) → AreKnown known → ((row : ℕ) → Contains rows row ↔ Contains ids.types row) →
     map (candidate_name ids known) all ≡ map (candidate_name ids known) (flat_map (candidates_of ids) rows) ++ known →
     AreInOrder (candidate_name ids known) all sorted → AreClassNames ids (map (candidate_name ids known) sorted)
-names_are_classes ids known rows all sorted known_stated described whole_list are = record {
+names_are_classes ids known rows all sorted every described whole_list are = record {
   rise = are.rise;
-  are = λ name. (λ here. is_class name (mapped_from (candidate_name ids known) sorted name here), λ class. there name (class_is_given ids name class));
+  are = λ name. (λ here. is_class name (mapped_from (candidate_name ids known) sorted name here), λ class. there name (class_is_given ids known name every class));
 }
   where
     of_known : (name : List ℕ) → (is_built_in name ≡ true) ⊎ (name ≡ texts_name) → IsClassName ids name
@@ -208,7 +181,7 @@ names_are_classes ids known rows all sorted known_stated described whole_list ar
 
     of_either : (name : List ℕ) → Contains (map (candidate_name ids known) (flat_map (candidates_of ids) rows)) name ⊎ Contains known name → IsClassName ids name
     of_either name (inl here) = let (row, given, gives) = (of_rows ids known rows name).0 here in given_is_class ids row name ((described row).0 given) gives
-    of_either name (inr here) = of_known name ((known_is name).0 (subst (λ names. Contains names name) known_stated here))
+    of_either name (inr here) = of_known name ((every.are name).0 here)
 
     is_class : (name : List ℕ) → (candidate : Candidate) × Contains sorted candidate × (candidate_name ids known candidate ≡ name) → IsClassName ids name
     is_class name (candidate, here, is) =
@@ -220,6 +193,6 @@ names_are_classes ids known rows all sorted known_stated described whole_list ar
         let (candidate, here, is) = mapped_from (candidate_name ids known) all name (subst (λ names. Contains names name) (sym whole_list) given) in
         subst (Contains (map (candidate_name ids known) sorted)) is (are.named candidate here)
 
-    there : (name : List ℕ) → ((row : ℕ) × Contains ids.types row × Gives ids row name) ⊎ Contains known_names name → Contains (map (candidate_name ids known) sorted) name
+    there : (name : List ℕ) → ((row : ℕ) × Contains ids.types row × Gives ids row name) ⊎ Contains known name → Contains (map (candidate_name ids known) sorted) name
     there name (inl (row, given, gives)) = of_all name (Contains-append_left (map (candidate_name ids known) (flat_map (candidates_of ids) rows)) known name ((of_rows ids known rows name).1 (row, (described row).1 given, gives)))
-    there name (inr here) = of_all name (Contains-append_right (map (candidate_name ids known) (flat_map (candidates_of ids) rows)) known name (subst (λ names. Contains names name) (sym known_stated) here))
+    there name (inr here) = of_all name (Contains-append_right (map (candidate_name ids known) (flat_map (candidates_of ids) rows)) known name here)

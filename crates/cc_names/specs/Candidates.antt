@@ -1,16 +1,17 @@
 -- What may have the name of a class of a program.
-use Rattle.std.specs.Prelude.{ℕ, if◌then◌else◌, List, [], ◌∷◌, ◌++◌, map, unwrap_or, slice_get}
+use Rattle.std.specs.Prelude.{◌≡◌, ◌≤◌, ◌↔◌, ◌⊎◌, ℕ, true, if◌then◌else◌, List, [], ◌∷◌, ◌++◌, length, Contains, unwrap_or, slice_get}
 use Rattle.cc_meaning.specs.declared.file.Ids.{Ids}
-use Rattle.cc_meaning.specs.BuiltIn.{BuiltInClass, built_in_classes}
+use Rattle.cc_meaning.specs.BuiltIn.{is_built_in}
 use Rattle.cc_meaning_dex.specs.Descriptors.{names_class, names_reference}
 use Rattle.cc_meaning_program.specs.Named.{text_of}
 use Rattle.cc_meaning_program.specs.ClassNames.{base_name, texts_name}
 use Rattle.cc_names.specs.declared.classes.Candidate.{Candidate}
 use Rattle.cc_names.specs.declared.classes.Candidate.TheVariants.{Whole, Base, Known}
 
--- the names that every program has: those of the built-in classes, and that of the array of texts
-unfoldable pub known_names : List (List ℕ)
-known_names = map (λ (class : BuiltInClass). class.name) built_in_classes ++ texts_name ∷ []
+-- These are the names that every program has: those of the 26 built-in classes, and that of the array of texts.
+pub record AreKnown (names : List (List ℕ)) : Type 0 where
+  pub are : (name : List ℕ) → Contains names name ↔ ((is_built_in name ≡ true) ⊎ (name ≡ texts_name))
+  pub few : length names ≤ 27
 
 -- the name of a candidate, where every program has these names
 unfoldable pub candidate_name : Ids → List (List ℕ) → Candidate → List ℕ

@@ -1,49 +1,19 @@
 //! The names of a program's classes.
 
-ghost use Rattle.std.specs.Prelude.{◌≡◌, ◌∷◌, [], ◌↔◌, ◌++◌, ◌⊎◌, true, ℕ, List, Contains, map, length, ◌+◌, ◌*◌, ◌≤◌, IfOk, OnOk};
+ghost use Rattle.std.specs.Prelude.{◌≡◌, ◌∷◌, [], ◌↔◌, ◌++◌, ℕ, List, Contains, map, length, ◌+◌, ◌*◌, ◌≤◌, IfOk, OnOk};
 ghost use Rattle.std.specs.List.{flat_map};
 ghost use Rattle.cc_meaning_program.specs.ClassNames.{AreClassNames};
-ghost use Rattle.cc_names.specs.Candidates.{candidate_name, known_names, whole_of, base_of, candidates_of};
+ghost use Rattle.cc_names.specs.Candidates.{AreKnown, candidate_name, whole_of, base_of, candidates_of};
 
 use crate::order::{Naming, in_order};
 use crate::rows::{base_name, names_class, names_reference, text};
+use cc_built_in::{built_in_names, units_of};
 use cc_list::List;
 use cc_meaning::fault::Memory;
 use cc_meaning::file::Ids;
 use cc_meaning::lists::{Rows, Texts, Units};
 use std::alloc::{AllocError, Global};
 use std::cmp::Ordering;
-
-/// The built-in classes, and the array of texts, of which the arguments of `main` are one.
-const KNOWN_NAMES: [&[u8]; 27] = [
-    b"Ljava/lang/Object;",
-    b"Ljava/lang/String;",
-    b"Ljava/lang/StringBuilder;",
-    b"Ljava/lang/System;",
-    b"Ljava/io/PrintStream;",
-    b"Ljava/lang/Throwable;",
-    b"Ljava/lang/Exception;",
-    b"Ljava/lang/Error;",
-    b"Ljava/lang/RuntimeException;",
-    b"Ljava/lang/ArithmeticException;",
-    b"Ljava/lang/NullPointerException;",
-    b"Ljava/lang/ArrayStoreException;",
-    b"Ljava/lang/ClassCastException;",
-    b"Ljava/lang/IndexOutOfBoundsException;",
-    b"Ljava/lang/NegativeArraySizeException;",
-    b"Ljava/lang/IllegalArgumentException;",
-    b"Ljava/lang/IllegalStateException;",
-    b"Ljava/lang/ArrayIndexOutOfBoundsException;",
-    b"Ljava/lang/StringIndexOutOfBoundsException;",
-    b"Ljava/lang/LinkageError;",
-    b"Ljava/lang/VirtualMachineError;",
-    b"Ljava/lang/NoClassDefFoundError;",
-    b"Ljava/lang/ExceptionInInitializerError;",
-    b"Ljava/lang/IncompatibleClassChangeError;",
-    b"Ljava/lang/AbstractMethodError;",
-    b"Ljava/lang/StackOverflowError;",
-    b"[Ljava/lang/String;",
-];
 
 /// What may have the name of a class: a row of texts, what stands behind the `[` of one, or one of the names that every program has, by its number.
 #[derive(Clone, Copy)]
@@ -101,32 +71,12 @@ impl Naming for ByNumber {
     }
 }
 
-fn ascii(alloc: Global, text: &[u8]) -> Result<Units, AllocError>
-    ensures { IfOk result (λ units. units ≡ text.now) }
-{
-    let mut units = List::new(alloc);
-    for byte in text {
-        units.push(u16::from(*byte))?;
-    }
-    Ok(units)
-}
-
-/// These names in ASCII, as units.
-pub fn ascii_names(alloc: Global, names: &[&[u8]]) -> Result<Texts, AllocError>
-    ensures { IfOk result (λ texts. texts ≡ map (λ name. name.now) names.now) }
-{
-    let mut texts = List::new(alloc);
-    for name in names {
-        texts.push(ascii(alloc, name)?)?;
-    }
-    Ok(texts)
-}
-
-/// The names of the classes that every program has.
+/// The names of the classes that every program has: the built-in classes, and the array of texts, of which the arguments of `main` are one.
 fn known_names(alloc: Global) -> Result<Texts, AllocError>
-    ensures { IfOk result (λ names. names ≡ known_names) }
+    ensures { IfOk result AreKnown }
 {
-    let names = ascii_names(alloc, &KNOWN_NAMES)?;
+    let mut names = built_in_names(alloc)?;
+    names.push(units_of(alloc, b"[Ljava/lang/String;")?)?;
     Ok(names)
 }
 

@@ -10,7 +10,7 @@ mod place;
 mod rows;
 mod types;
 
-pub use classes::{ascii_names, class_names};
+pub use classes::class_names;
 pub use listed::{numbers_of_texts, texts};
 pub use members::{
     compare_fields, compare_methods, prototype_piece, sorted_fields, sorted_methods,

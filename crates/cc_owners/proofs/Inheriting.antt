@@ -11,11 +11,11 @@ use Rattle.cc_meaning.specs.declared.program.ClassKind.{ClassKind}
 use Rattle.cc_meaning.specs.declared.program.ClassKind.TheVariants.{File, BuiltIn, Outside, OutsideError, Array}
 use Rattle.cc_meaning.specs.BuiltIn.{is_built_in}
 use Rattle.cc_meaning_dex.specs.Descriptors.{begins_with}
-use Rattle.cc_built_in.specs.BuiltInMethods.{BuiltInMethod, built_in_member, array_methods}
+use Rattle.cc_built_in.specs.BuiltInMethods.{BuiltInMethod, built_in_member, array_methods, methods_of_class}
 use Rattle.cc_meaning_program.specs.ClassFaults.{AreSound, HasNoSuperclass, of_built_in}
 use Rattle.cc_meaning_program.specs.Definitions.{Defines}
 use Rattle.cc_meaning_program.specs.Named.{type_name}
-use Rattle.cc_meaning_program.specs.Ancestry.{definition_of, is_defined, is_exception, is_error, outside_kind, kind_of_class, stated_superclass, superclass_by_kind, superclass_named, Ancestry, top, up}
+use Rattle.cc_meaning_program.specs.Ancestry.{definition_of, is_defined, outside_kind, kind_of_class, stated_superclass, superclass_by_kind, superclass_named, Ancestry, top, up}
 use Rattle.cc_meaning_program.specs.OwnMembers.{built_in_by_kind, built_in_methods_of, method_listed, is_constructor}
 use Rattle.cc_meaning_program.specs.Owners.{inherits, Lists}
 use Rattle.cc_meaning_program.specs.Searches.{First, NoneOf}
@@ -23,7 +23,6 @@ use Rattle.cc_meaning_program.specs.Outlines.{AreNumbersOf, definition_number}
 use Rattle.cc_owners.specs.declared.linked.Linked.{Linked}
 use Rattle.cc_owners.specs.declared.place.Found.{Found}
 use Rattle.cc_owners.specs.Beyond.{listed_place, IsUndefined, Listed, IsFoundListed, IsListed}
-use Rattle.cc_owners.specs.Listings.{class_methods}
 use Rattle.cc_owners.proofs.Climbing.{ancestry_once, from_there}
 use Rattle.cc_owners.proofs.Lists.{Among, first, later, some_is, parted, length_both}
 use Rattle.cc_owners.proofs.Positions.{Stands, found_here, found_at}
@@ -113,21 +112,6 @@ not_above ids name above ancestry met =
 
 -- ---- built-in classes
 
-pub built_in_if : (ids : Ids) (name : List ℕ) → kind_of_class ids name ≡ BuiltIn → is_built_in name ≡ true
-unfolding kind_of_class outside_kind
-built_in_if ids name kind = from (is_built_in name) kind
-  where
-    others : (defined array exception error : Bool) → cond defined File (cond array Array (cond exception OutsideError (cond error OutsideError Outside))) ≡ BuiltIn → ⊥
-    others true array exception error e = absurd cc
-    others false true exception error e = absurd cc
-    others false false true error e = absurd cc
-    others false false false true e = absurd cc
-    others false false false false e = absurd cc
-
-    from : (built_in : Bool) → cond built_in BuiltIn (cond (is_defined ids name) File (cond (begins_with 91 name) Array (cond (is_exception name) OutsideError (cond (is_error name) OutsideError Outside)))) ≡ BuiltIn → built_in ≡ true
-    from true e = refl
-    from false e = absurd (others (is_defined ids name) (begins_with 91 name) (is_exception name) (is_error name) e)
-
 methods_by_kind : (ids : Ids) (name : List ℕ) (kind : ClassKind) → kind ≡ kind_of_class ids name → built_in_methods_of ids name ≡ built_in_by_kind kind name
 unfolding built_in_methods_of
 methods_by_kind ids name kind e = ap (λ k. built_in_by_kind k name) (sym e)
@@ -138,8 +122,8 @@ unfolding listed_place
 place_listed ids name member kind members place e are is =
     is ∙ ap (position (λ listed. bytes_eq listed member)) (are ∙ ap (map built_in_member) (sym (methods_by_kind ids name kind e)))
 
-pub of_class : (name : List ℕ) → class_methods name ≡ built_in_by_kind BuiltIn name
-unfolding class_methods built_in_by_kind
+pub of_class : (name : List ℕ) → methods_of_class name ≡ built_in_by_kind BuiltIn name
+unfolding built_in_by_kind
 of_class name = refl
 
 pub of_array : (name : List ℕ) → array_methods name ≡ built_in_by_kind Array name

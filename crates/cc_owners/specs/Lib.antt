@@ -3,6 +3,5 @@ pub mod Places
 pub mod Index
 pub mod Known
 pub mod Entered
-pub mod Listings
 pub mod Beyond
 pub mod Fields

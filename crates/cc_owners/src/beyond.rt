@@ -8,9 +8,10 @@ ghost use Rattle.cc_meaning_program.specs.Outlines.{AreNumbersOf};
 ghost use Rattle.cc_owners.specs.Beyond.{listed_place, IsUndefined, IsFirstBeyond, Listed, IsListed, IsFoundListed, IsBeyondOwner};
 ghost use Rattle.cc_owners.specs.Known.{IsKnown, AreAncestors};
 
-use crate::built_in::{array_members, class_members, is_constructor, place_among};
+use crate::built_in::{is_constructor, place_among};
 use crate::linked::Linked;
 use crate::place::Found;
+use cc_built_in::{array_methods, methods_of_class};
 use cc_meaning::lists::ClassIx;
 use cc_meaning::program::ClassKind;
 use cc_meaning_program::MethodOwner;
@@ -24,9 +25,9 @@ fn listed_in(linked: &Linked<'_>, class: ClassIx, member: &[u16]) -> Option<u32>
     match linked.outlines.at(class as usize).kind {
         ClassKind::BuiltIn => {
             let name = linked.names.at(class as usize).as_slice();
-            place_among(class_members(name), member)
+            place_among(methods_of_class(name), member)
         }
-        ClassKind::Array => place_among(array_members(), member),
+        ClassKind::Array => place_among(array_methods(), member),
         _ => None,
     }
 }

@@ -7,10 +7,9 @@ ghost use Rattle.cc_meaning_program.specs.Rows.{IsTypeRow};
 ghost use Rattle.cc_owners.specs.Known.{IsKnown, AreAncestors};
 
 use crate::linked::Linked;
-use crate::names::type_name;
 use cc_list::List;
 use cc_meaning::lists::{ClassIx, ClassList};
-use cc_names::find;
+use cc_names::{find, type_name};
 use cc_program_laws::classes_have_ancestries;
 use std::alloc::{AllocError, Global};
 

@@ -11,7 +11,6 @@ mod index;
 mod linked;
 mod members;
 mod methods;
-mod names;
 mod place;
 mod search;
 

@@ -8,9 +8,9 @@ ghost use Rattle.std.specs.Ordering.{nat_cmp};
 ghost use Rattle.cc_meaning_program.specs.Named.{type_name, field_member, method_member};
 ghost use Rattle.cc_owners.specs.Members.{spelled, member_of};
 
-use crate::names::{text_of, type_name};
 use cc_meaning::file::Ids;
 use cc_meaning::lists::Units;
+use cc_names::{text, type_name};
 use std::alloc::{AllocError, Global};
 use std::cmp::Ordering;
 
@@ -53,7 +53,7 @@ fn field_name(ids: &Ids, row: u32) -> MemberName<'_>
 {
     match ids.fields.get(row as usize) {
         Some(field) => MemberName {
-            name: text_of(ids, field.name),
+            name: text(ids, field.name),
             opening: &[58],
             params: &[],
             closing: &[],
@@ -71,7 +71,7 @@ fn method_name(ids: &Ids, row: u32) -> MemberName<'_>
     let Some(method) = ids.methods.get(row as usize) else {
         return bare(&[]);
     };
-    let name = text_of(ids, method.name);
+    let name = text(ids, method.name);
     match ids.protos.get(method.proto as usize) {
         Some(prototype) => MemberName {
             name,

@@ -6,13 +6,13 @@ ghost use Rattle.cc_meaning.specs.Order.{IsRisingByName};
 ghost use Rattle.cc_meaning_script.specs.Answers.{is_text_class, takes_text, can_be_thrown, is_outside, holds_of, when, is_within, truth_answer, int_answer, long_answer, instance_answer, object_answer, array_answer, base_answer, nothing_answer, result_answer, thrown_answer, answer_for, class_listed};
 ghost use Rattle.cc_units.specs.Units.{units_of};
 
-use cc_builtin::{is_name, is_throwable};
+use cc_built_in::is_built_in_throwable;
 use cc_meaning::lists::ClassIx;
 use cc_meaning::program::{Base, Class, ClassKind, DexType, Program};
 use cc_meaning::report::Answer;
 use cc_meaning::text::Text;
 use cc_meaning_script::listed::Listed;
-use cc_program_names::class_named;
+use cc_program_names::{class_named, is_ascii};
 use cc_types::{fits_class, is_loose};
 use cc_units::units_of;
 use std::alloc::{AllocError, Global};
@@ -22,7 +22,7 @@ fn is_text_class(class: &Class) -> bool
     ensures { result ≡ is_text_class class.now }
 {
     let name = class.name.as_slice();
-    is_name(name, b"Ljava/lang/String;") || is_name(name, b"Ljava/lang/Object;")
+    is_ascii(name, b"Ljava/lang/String;") || is_ascii(name, b"Ljava/lang/Object;")
 }
 
 fn can_be_thrown(class: &Class) -> bool
@@ -30,7 +30,7 @@ fn can_be_thrown(class: &Class) -> bool
 {
     match class.kind {
         ClassKind::OutsideError => true,
-        ClassKind::BuiltIn => is_throwable(class.name.as_slice()),
+        ClassKind::BuiltIn => is_built_in_throwable(class.name.as_slice()),
         _ => false,
     }
 }

@@ -1,46 +1,18 @@
 //! The numbers of a plain file's methods among all methods of its program.
 
-ghost use Rattle.std.specs.Prelude.{◌≡◌, ◌<◌, ◌^◌};
+ghost use Rattle.std.specs.Prelude.{◌≡◌, ◌<◌, ◌^◌, map};
 ghost use Rattle.std.specs.Ordering.{nat_cmp};
 ghost use Rattle.std.specs.Cmp.Lexicographic.{slice_cmp};
 ghost use Rattle.cc_built_in.specs.BuiltInMethods.{is_before, built_in_tables, methods_before};
+ghost use Rattle.cc_built_in.specs.Listed.{table_of};
 ghost use Rattle.std.specs.Option.{option_copied};
 ghost use Rattle.cc_meaning_plain.specs.Program.{main_name, before_main, function_number};
 ghost use Rattle.cc_meaning_clone.specs.Functions.{function_place, function_numbered};
-ghost use Rattle.cc_wire.specs.Numbers.{counts_before, rows_of};
 
+use cc_built_in::built_in_classes;
+use cc_built_in::table::ListedClass;
 use cc_meaning_plain::{Plain, PlainFunction};
 use std::cmp::Ordering;
-
-/// The built-in classes, and how many methods each has.
-const BUILT_IN: [(&[u8], u32); 26] = [
-    (b"Ljava/io/PrintStream;", 11),
-    (b"Ljava/lang/AbstractMethodError;", 2),
-    (b"Ljava/lang/ArithmeticException;", 2),
-    (b"Ljava/lang/ArrayIndexOutOfBoundsException;", 2),
-    (b"Ljava/lang/ArrayStoreException;", 2),
-    (b"Ljava/lang/ClassCastException;", 2),
-    (b"Ljava/lang/Error;", 2),
-    (b"Ljava/lang/Exception;", 2),
-    (b"Ljava/lang/ExceptionInInitializerError;", 2),
-    (b"Ljava/lang/IllegalArgumentException;", 2),
-    (b"Ljava/lang/IllegalStateException;", 2),
-    (b"Ljava/lang/IncompatibleClassChangeError;", 2),
-    (b"Ljava/lang/IndexOutOfBoundsException;", 2),
-    (b"Ljava/lang/LinkageError;", 2),
-    (b"Ljava/lang/NegativeArraySizeException;", 2),
-    (b"Ljava/lang/NoClassDefFoundError;", 2),
-    (b"Ljava/lang/NullPointerException;", 2),
-    (b"Ljava/lang/Object;", 2),
-    (b"Ljava/lang/RuntimeException;", 2),
-    (b"Ljava/lang/StackOverflowError;", 2),
-    (b"Ljava/lang/String;", 3),
-    (b"Ljava/lang/StringBuilder;", 8),
-    (b"Ljava/lang/StringIndexOutOfBoundsException;", 2),
-    (b"Ljava/lang/System;", 0),
-    (b"Ljava/lang/Throwable;", 3),
-    (b"Ljava/lang/VirtualMachineError;", 2),
-];
 
 /// How a name stands to another, by UTF-16 units. The second one is in ASCII.
 fn compare(name: &[u16], other: &[u8]) -> Ordering
@@ -74,25 +46,25 @@ fn is_before(name: &[u8], other: &[u16]) -> bool
     compare(other, name) == Ordering::Greater
 }
 
-/// How many methods the classes of a table have whose names stand before a name.
-fn count_before(table: &[(&[u8], u32)], name: &[u16]) -> u32
-    requires { counts_before (rows_of table.now) name.now < 2 ^ 32 }
-    ensures { result ≡ counts_before (rows_of table.now) name.now }
+/// How many methods these classes have whose names stand before a name.
+fn count_before(classes: &[ListedClass], name: &[u16]) -> u32
+    requires { methods_before (map table_of classes.now) name.now < 2 ^ 32 }
+    ensures { result ≡ methods_before (map table_of classes.now) name.now }
 {
     let mut count = 0;
-    for (class, methods) in table {
-        if is_before(class, name) {
-            count += *methods;
+    for class in classes {
+        if is_before(class.name, name) {
+            count += class.methods.len();
         }
     }
-    count
+    count as u32
 }
 
 /// How many built-in methods stand before those of a class.
 fn first_method(class: &[u16]) -> u32
     ensures { result ≡ methods_before built_in_tables class.now }
 {
-    count_before(&BUILT_IN, class)
+    count_before(built_in_classes(), class)
 }
 
 /// Whether a method's name with its types stands before that of `main`.

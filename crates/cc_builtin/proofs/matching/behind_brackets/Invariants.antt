@@ -1,5 +1,5 @@
 use Rattle.std.proofs.Common.{◌≡◌, ◌-◌, replicate}
-use Rattle.cc_builtin.specs.Matching.{without}
+use Rattle.cc_units.specs.Matching.{without}
 use Rattle.cc_builtin.proofs.matching.behind_brackets.Given as goal
 
 abbrev pub invariant-loop-bracket : goal.invariant-loop-bracket

@@ -1,7 +1,7 @@
 use Rattle.std.proofs.Common.{◌≡◌, drop}
 use Rattle.std.specs.List.{flat_map}
 use Rattle.cc_meaning.specs.Names.{descriptor}
-use Rattle.cc_builtin.specs.Matching.{without}
+use Rattle.cc_units.specs.Matching.{without}
 use Rattle.cc_builtin.proofs.matching.behind_types.Given as goal
 
 abbrev pub invariant-loop-ty : goal.invariant-loop-ty

@@ -1,5 +1,5 @@
 use Rattle.std.proofs.Common.{◌∙◌}
-use Rattle.cc_builtin.proofs.Matches.{whole_of}
+use Rattle.cc_units.proofs.Matches.{whole_of}
 use Rattle.cc_builtin.proofs.matching.is_member.Goals as goal
 
 pub returns-in-Some : goal.returns-in-Some

@@ -1,5 +1,5 @@
 use Rattle.cc_meaning.specs.BuiltIn.{object_name, exception_name, error_name}
-use Rattle.cc_hierarchy.proofs.Tables.{object_is_class, exception_is_class, error_is_class}
+use Rattle.cc_hierarchy.proofs.Roots.{object_is_class, exception_is_class, error_is_class}
 use Rattle.cc_hierarchy.proofs.sources.roots_of.Goals as goal
 
 pub number_of-requires-clause-there : goal.number_of-requires-clause-there

@@ -1,10 +1,17 @@
-use Rattle.std.proofs.Common.{◌∙◌, refl}
-use Rattle.cc_meaning.specs.BuiltIn.{object_name, string_name, string_builder_name, system_name, print_stream_name, throwable_name, exception_name, error_name, runtime_exception_name, arithmetic_exception_name, null_pointer_exception_name, array_store_exception_name, class_cast_exception_name, index_out_of_bounds_exception_name, negative_array_size_exception_name, illegal_argument_exception_name, illegal_state_exception_name, array_index_out_of_bounds_exception_name, string_index_out_of_bounds_exception_name, linkage_error_name, virtual_machine_error_name, no_class_def_found_error_name, exception_in_initializer_error_name, incompatible_class_change_error_name, abstract_method_error_name, stack_overflow_error_name, out_name}
-use Rattle.cc_built_in.specs.BuiltInMethods.{built_in_tables, print_stream_methods, object_methods, string_methods, string_builder_methods, message_methods, array_methods, built_in_member}
+use Rattle.std.proofs.Common.{[], ◌∷◌, map, append_assoc}
+use Rattle.cc_meaning.specs.BuiltIn.{system_name}
+use Rattle.cc_built_in.specs.BuiltInMethods.{BuiltInMethods, built_in_tables, array_methods, built_in_member}
 use Rattle.cc_meaning_program.specs.Members.{out_member}
 use Rattle.cc_members.specs.ListedNames.{listed_members}
 use Rattle.cc_members.proofs.planned_built_in.known_listings.Goals as goal
 
 pub returns : goal.returns
-unfolding listed_members built_in_tables print_stream_methods object_methods string_methods string_builder_methods message_methods array_methods built_in_member out_member out_name object_name string_name string_builder_name system_name print_stream_name throwable_name exception_name error_name runtime_exception_name arithmetic_exception_name null_pointer_exception_name array_store_exception_name class_cast_exception_name index_out_of_bounds_exception_name negative_array_size_exception_name illegal_argument_exception_name illegal_state_exception_name array_index_out_of_bounds_exception_name string_index_out_of_bounds_exception_name linkage_error_name virtual_machine_error_name no_class_def_found_error_name exception_in_initializer_error_name incompatible_class_change_error_name abstract_method_error_name stack_overflow_error_name
-returns c = record { classes = c.in_ok-classes.ensures ∙ refl; members = c.in_ok-members.ensures ∙ refl }
+unfolding listed_members system_name
+returns c =
+    let of_classes = map (λ (table : BuiltInMethods). map built_in_member table.methods) built_in_tables in
+    record {
+      classes = c.in_ok-classes.ensures.are;
+      members = rw (c.in_ok-push-2.ensures.ok, c.in_ok-push.ensures.ok, c.in_ok-members.ensures, c.built_in_classes.ensures.members, c.in_ok-arrays.ensures, (c.array_methods.ensures []).members, c.in_ok-out.ensures)
+          (append_assoc of_classes (map built_in_member (array_methods []) ∷ []) ((out_member ∷ []) ∷ []));
+      system = c.in_ok-system.ensures;
+    }

@@ -4,13 +4,11 @@ use Rattle.std.proofs.lemmas.List.{take_all, length-map}
 use Rattle.cc_meaning_program.specs.ClassNames.{AreClassNames}
 use Rattle.cc_names.specs.declared.classes.Candidate.{Candidate}
 use Rattle.cc_names.specs.Candidates.{candidate_name, candidates_of}
-use Rattle.cc_names.proofs.Candidacy.{count_known, few_candidates, names_are_classes}
+use Rattle.cc_names.proofs.Candidacy.{few_candidates, names_are_classes}
 use Rattle.cc_names.proofs.classes.class_names.Goals as goal
 
 pub overflow_cast-len : goal.overflow_cast-len
-overflow_cast-len c =
-    let counted : length c.in_ok-known.known ≡ 27 = ap length c.in_ok-known.ensures ∙ count_known in
-    omega (arith, counted, c.len.ensures.value)
+overflow_cast-len c = omega (arith, c.in_ok-known.ensures.few, c.len.ensures.value)
 
 pub returns-clause-names : goal.returns-clause-names
 returns-clause-names c =
@@ -39,5 +37,4 @@ returns-clause-few c =
     let taken : take c.loop-candidate.candidate-index items ≡ items = take_all c.loop-candidate.candidate-index items (omega (arith, c.loop-candidate-test.false)) in
     let names : c.loop-candidate.names ≡ map (candidate_name ids known) sorted = c.loop-candidate.invariant ∙ ap (map (candidate_name ids known)) (taken ∙ c.as_slice-candidate-items.ensures) in
     let whole = few_candidates ids known rows c.in_ok-all.all all listed (c.in_ok-add_known.ensures ids known c.len.ensures.value) in
-    let counted : length known ≡ 27 = ap length c.in_ok-known.ensures ∙ count_known in
-    omega (arith, ap length names, length-map sorted (candidate_name ids known), c.in_ok-sorted.ensures.few, whole, counted, c.in_ok-rows.ensures.few)
+    omega (arith, ap length names, length-map sorted (candidate_name ids known), c.in_ok-sorted.ensures.few, whole, c.in_ok-known.ensures.few, c.in_ok-rows.ensures.few)

@@ -1,9 +1,12 @@
-use Rattle.std.proofs.Common.{◌∙◌, refl}
-use Rattle.cc_meaning.specs.BuiltIn.{built_in_classes, built_in_plain_classes, built_in_throwables, object_name, string_name, string_builder_name, system_name, print_stream_name, throwable_name, exception_name, error_name, runtime_exception_name, arithmetic_exception_name, null_pointer_exception_name, array_store_exception_name, class_cast_exception_name, index_out_of_bounds_exception_name, negative_array_size_exception_name, illegal_argument_exception_name, illegal_state_exception_name, array_index_out_of_bounds_exception_name, string_index_out_of_bounds_exception_name, linkage_error_name, virtual_machine_error_name, no_class_def_found_error_name, exception_in_initializer_error_name, incompatible_class_change_error_name, abstract_method_error_name, stack_overflow_error_name}
+use Rattle.std.proofs.Common.{◌∷◌, [], ◌++◌, sym, ap, subst, ◌∙◌}
 use Rattle.cc_meaning_program.specs.ClassNames.{texts_name}
-use Rattle.cc_names.specs.Candidates.{known_names}
+use Rattle.cc_names.specs.Candidates.{AreKnown}
+use Rattle.cc_names.proofs.Candidacy.{known_are}
 use Rattle.cc_names.proofs.classes.known_names.Goals as goal
 
 pub returns : goal.returns
-unfolding known_names texts_name built_in_classes built_in_plain_classes built_in_throwables object_name string_name string_builder_name system_name print_stream_name throwable_name exception_name error_name runtime_exception_name arithmetic_exception_name null_pointer_exception_name array_store_exception_name class_cast_exception_name index_out_of_bounds_exception_name negative_array_size_exception_name illegal_argument_exception_name illegal_state_exception_name array_index_out_of_bounds_exception_name string_index_out_of_bounds_exception_name linkage_error_name virtual_machine_error_name no_class_def_found_error_name exception_in_initializer_error_name incompatible_class_change_error_name abstract_method_error_name stack_overflow_error_name
-returns c = c.in_ok-names.ensures ∙ refl
+unfolding texts_name
+returns c =
+    let names = c.in_ok-names.names in
+    let pushed = c.in_ok-push.ensures.ok ∙ ap (λ name. names ++ name ∷ []) c.in_ok-units_of.ensures in
+    subst AreKnown (sym pushed) (known_are names c.in_ok-names.ensures.all c.in_ok-names.ensures.are)

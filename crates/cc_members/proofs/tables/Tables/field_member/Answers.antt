@@ -1,7 +1,7 @@
 use Rattle.std.proofs.Common.{refl}
 use Rattle.cc_meaning_program.specs.Plans.{field_source_member}
 use Rattle.cc_members.specs.Named.{member_text}
-use Rattle.cc_members.proofs.Outlined.{field_named, field_none, out_named}
+use Rattle.cc_members.proofs.Outlined.{field_named, field_none}
 use Rattle.cc_members.proofs.tables.Tables.field_member.Goals as goal
 
 pub returns-in-Some : goal.returns-in-Some
@@ -14,7 +14,7 @@ returns-in-None c = rw c.in-File.is (field_none c.args.self.now.names.ids.now _ 
 
 pub returns-in-Out : goal.returns-in-Out
 unfolding field_source_member member_text
-returns-in-Out c = rw c.in-Out.is (rw c.requires.tables.listings.members out_named)
+returns-in-Out c = rw c.in-Out.is c.out_table.ensures
 
 pub returns-in-Outside : goal.returns-in-Outside
 unfolding field_source_member member_text
