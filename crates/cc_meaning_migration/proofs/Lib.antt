@@ -1,0 +1,2 @@
+pub mod WorkedEntries
+pub mod WorkedEnds
