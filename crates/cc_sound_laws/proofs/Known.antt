@@ -1,5 +1,5 @@
 -- What is known of an object by a type that it is below.
-use Rattle.std.proofs.Common.{unwrap_or, ◌≡◌, ◌⊎◌, inl, inr, ℕ, suc, Bool, true, false, cond, List, Option, Some, None, refl, sym, ap, ◌∙◌, subst, slice_get}
+use Rattle.std.proofs.Common.{unwrap_or, ◌≡◌, ◌⊎◌, inl, inr, ℕ, zero, suc, Bool, true, false, cond, List, Option, Some, None, refl, sym, ap, ◌∙◌, subst, slice_get}
 use Rattle.std.specs.Prelude.{not, ◌&&◌}
 use Rattle.cc_meaning.specs.declared.program.Base.{Base}
 use Rattle.cc_meaning.specs.declared.program.Base.TheVariants as base
@@ -13,11 +13,13 @@ use Rattle.cc_meaning.specs.declared.value.Object.TheVariants as object
 use Rattle.cc_meaning.specs.declared.value.Value.{Value}
 use Rattle.cc_meaning.specs.BuiltIn.{object_name, string_name, string_builder_name, print_stream_name, throwable_name}
 use Rattle.cc_meaning.specs.Kinds.{kind_of}
+use Rattle.cc_meaning.specs.declared.instruction.Kind.TheVariants as kind
+use Rattle.cc_meaning_typing.proofs.Tree.{test_eq}
 use Rattle.cc_meaning_typing.specs.Hierarchy.{superclass_of, object_class, Inherits, itself, further}
-use Rattle.cc_meaning_typing.specs.Types.{typed, class_type, object_type, array_of, is_loose_kind, is_loose_in, is_loose, held_base, held, IsBelow, same, object as top, classes, elements}
+use Rattle.cc_meaning_typing.specs.Types.{is_class, is_reference_in, is_reference, typed, class_type, object_type, array_of, is_loose_kind, is_loose_in, is_loose, held_base, held, IsBelow, same, object as top, classes, elements}
 use Rattle.cc_meaning_typing.specs.Code.{is_array_of, is_array, string_type, type_of_kind, type_of_found, type_of_class}
 use Rattle.cc_meaning_typing.specs.WellTyped.{is_of_file, is_file_class, is_file_interface}
-use Rattle.cc_meaning_typing.proofs.Monotone.{below_array, array_parts}
+use Rattle.cc_meaning_typing.proofs.Monotone.{Element, array_parts}
 use Rattle.cc_sound_laws.proofs.Made.{made_class, no_text_made}
 use Rattle.cc_meaning_exec.specs.Arrays.{array_class}
 use Rattle.cc_meaning_exec.specs.Dispatch.{class_of_type}
@@ -93,12 +95,40 @@ array_is : (element : DexType) → is_array (array_of element) ≡ true
 unfolding is_array is_array_of
 array_is element = refl
 
+-- ---- below an array
+
+kind_reference : (dims : ℕ) (b : Base) → is_reference_in dims b ≡ true → kind_of (typed dims b) ≡ kind.Object
+unfolding is_reference_in is_class
+kind_reference zero (base.Class class) e = refl
+kind_reference zero base.Boolean e = cc
+kind_reference zero base.Byte e = cc
+kind_reference zero base.Short e = cc
+kind_reference zero base.Char e = cc
+kind_reference zero base.Int e = cc
+kind_reference zero base.Long e = cc
+kind_reference (suc dims) b e = elim (test_eq (suc dims) 0) [ inl t ↦ absurd (let f = t.1 in cc) | inr t ↦ rw t.0 refl ]
+
+-- what is below an array of a type is one of a type that is below it
+below_array : (p : Program) {s t : DexType} → IsBelow p s t → (v : DexType) → t ≡ array_of v → Element p s v
+unfolding is_reference
+below_array p same v e = record { w = v; is = e; below = same; alike = refl }
+below_array p (top f) v e = absurd (let q = ap (λ (z : DexType). z.dims) (sym f ∙ e) in cc)
+below_array p (classes h l) v e = absurd (let q = ap (λ (z : DexType). z.dims) e in cc)
+below_array p (elements {type = x} {above = y} r1 r2 h) v e =
+    let f = array_parts p y v e in
+    record {
+      w = x;
+      is = refl;
+      below = subst (λ z. IsBelow p x z) f h;
+      alike = kind_reference x.dims x.base r1 ∙ sym (kind_reference v.dims v.base (subst (λ z. is_reference z ≡ true) f r2));
+    }
+
 module _ (p : Program) (linked : IsLinked p) where
   object_no_file : is_file_class (slice_get p.classes (object_class p)) ≡ true → ⊥
   object_no_file e = let f = linked.above_plain object_name (object_class p) object_itself (subst (λ z. Inherits p z (object_class p)) (sym (number_object p)) itself) in cc
 
-  object_above : (class : ℕ) → Inherits p (object_class p) class → is_file_class (slice_get p.classes class) ≡ true → ⊥
-  object_above class h e = let f = linked.above_plain object_name class object_itself (subst (λ z. Inherits p z class) (sym (number_object p)) h) in cc
+  no_file_above : (class : ℕ) → Inherits p (object_class p) class → is_file_class (slice_get p.classes class) ≡ true → ⊥
+  no_file_above class h e = let f = linked.above_plain object_name class object_itself (subst (λ z. Inherits p z class) (sym (number_object p)) h) in cc
 
   -- what is below a class of the file, as it is held, is a class that has it above
   held_below : (class above : ℕ) → is_file_class (slice_get p.classes above) ≡ true → IsBelow p (held p (class_type class)) (class_type above) → Inherits p class above
@@ -108,7 +138,7 @@ module _ (p : Program) (linked : IsLinked p) where
       by : (l : Bool) → IsBelow p (class_type (cond l (object_class p) class)) (class_type above) → Inherits p class above
       by true b = elim (below_class p _ above b) [
         | inl q ↦ absurd (object_no_file (subst (λ z. is_file_class (slice_get p.classes z) ≡ true) q e))
-        | inr x ↦ absurd (object_above above (subst (λ z. Inherits p z above) (sym (class_same _ _ x.1)) x.2) e)
+        | inr x ↦ absurd (no_file_above above (subst (λ z. Inherits p z above) (sym (class_same _ _ x.1)) x.2) e)
       ]
       by false b = elim (below_class p _ above b) [
         | inl q ↦ absurd (object_no_file (subst (λ z. is_file_class (slice_get p.classes z) ≡ true) q e))
@@ -137,9 +167,9 @@ module _ (p : Program) (linked : IsLinked p) where
   file_sort Out above f e b = absurd (no_plain print_stream_name above print_stream e b)
   file_sort (Instance class fields) above f e b = record { class = class; fields = fields; is = refl; made = f; inherits = held_below class above e b }
   file_sort (Array class n) above f e b = absurd (no_array _ above f.0.dims (ap (λ (z : DexType). z.dims) f.1) e b)
-  file_sort Text above f e b = absurd (no_plain string_name above string e b)
+  file_sort (Text units) above f e b = absurd (no_plain string_name above string e b)
   file_sort Builder above f e b = absurd (no_plain string_builder_name above string_builder e b)
-  file_sort Constant above f e b = absurd (no_plain object_name above object_itself e (subst (λ z. IsBelow p (held p (class_type z)) (class_type above)) (sym (number_object p)) b))
+  file_sort (Constant made) above f e b = absurd (no_plain object_name above object_itself e (subst (λ z. IsBelow p (held p (class_type z)) (class_type above)) (sym (number_object p)) b))
 
   -- ---- arrays
 
@@ -203,6 +233,9 @@ module _ (p : Program) (linked : IsLinked p) where
       by true = top refl
       by false = top refl
 
+  pub object_above : (t : DexType) (above : ℕ) → above ≡ object_class p → IsBelow p t (held p (class_type above))
+  object_above t above e = subst (λ z. IsBelow p t (held p (class_type z))) (sym e) (object_held t)
+
   loose_inherits : {class above : ℕ} → Inherits p class above → is_loose p class ≡ true → is_file_interface (slice_get p.classes class) ≡ false → (class ≡ above) ⊎ (above ≡ object_class p)
   loose_inherits itself l f = inl refl
   loose_inherits (further {class = class} {above = next} s h) l f = inr (object_inherits h (linked.loose class next l f s))
@@ -265,9 +298,9 @@ module _ (p : Program) (linked : IsLinked p) where
   sort_up Out above f h = class_up_type _ above (linked.plain print_stream_name print_stream) (linked.plain_type print_stream_name print_stream) h
   sort_up (Instance class fields) above f h = class_up_type class above (made_class (slice_get p.classes class) f.made) f.no_array h
   sort_up (Array class n) above f h = subst (λ z. IsBelow p (held p z) (held p (type_of_class p above))) (sym f.1) (array_up f.0 (array_class p (array_of f.0)) above refl (subst (λ (z : DexType). Inherits p (class_of_type p z.dims z.base) above) f.1 h))
-  sort_up Text above f h = class_up_type _ above (linked.plain string_name string) (linked.plain_type string_name string) h
+  sort_up (Text units) above f h = class_up_type _ above (linked.plain string_name string) (linked.plain_type string_name string) h
   sort_up Builder above f h = class_up_type _ above (linked.plain string_builder_name string_builder) (linked.plain_type string_builder_name string_builder) h
-  sort_up Constant above f h = class_up_type _ above (subst (λ z. is_file_interface (slice_get p.classes z) ≡ false) (number_object p) (linked.plain object_name object_itself)) object_type_is h
+  sort_up (Constant made) above f h = class_up_type _ above (subst (λ z. is_file_interface (slice_get p.classes z) ≡ false) (number_object p) (linked.plain object_name object_itself)) object_type_is h
 
   -- the class of an object is no interface
   pub sort_no_interface : (sort : Sort) (class : ℕ) → SortFits p sort → type_of p sort ≡ class_type class → is_file_interface (slice_get p.classes class) ≡ false
@@ -275,9 +308,9 @@ module _ (p : Program) (linked : IsLinked p) where
   sort_no_interface Out class f e = subst (λ z. is_file_interface (slice_get p.classes z) ≡ false) (class_same _ _ e) (linked.plain print_stream_name print_stream)
   sort_no_interface (Instance c n) class f e = subst (λ z. is_file_interface (slice_get p.classes z) ≡ false) (class_same _ _ e) (made_class (slice_get p.classes c) f.made)
   sort_no_interface (Array c n) class f e = absurd (let d : suc f.0.dims ≡ 0 = ap (λ (z : DexType). z.dims) (sym f.1 ∙ e) in cc)
-  sort_no_interface Text class f e = subst (λ z. is_file_interface (slice_get p.classes z) ≡ false) (class_same _ _ e) (linked.plain string_name string)
+  sort_no_interface (Text units) class f e = subst (λ z. is_file_interface (slice_get p.classes z) ≡ false) (class_same _ _ e) (linked.plain string_name string)
   sort_no_interface Builder class f e = subst (λ z. is_file_interface (slice_get p.classes z) ≡ false) (class_same _ _ e) (linked.plain string_builder_name string_builder)
-  sort_no_interface Constant class f e = subst (λ z. is_file_interface (slice_get p.classes z) ≡ false) (number_object p ∙ class_same _ _ e) (linked.plain object_name object_itself)
+  sort_no_interface (Constant made) class f e = subst (λ z. is_file_interface (slice_get p.classes z) ≡ false) (number_object p ∙ class_same _ _ e) (linked.plain object_name object_itself)
 
   -- ---- texts, builders and throwables
 
@@ -303,14 +336,14 @@ module _ (p : Program) (linked : IsLinked p) where
   ]
 
   -- what is below String is a text
-  pub text_sort : (sort : Sort) → SortFits p sort → IsBelow p (held p (type_of p sort)) (class_type (number_of p string_name)) → sort ≡ Text
+  pub text_sort : (sort : Sort) → SortFits p sort → IsBelow p (held p (type_of p sort)) (class_type (number_of p string_name)) → (units : List ℕ) × (sort ≡ Text units)
   unfolding type_of string_type number_of held
-  text_sort Text f b = refl
+  text_sort (Text units) f b = (units, refl)
   text_sort (Instance class n) f b = absurd (no_text_made p linked class f.made (only_class class _ linked.text_object linked.text_closed b))
   text_sort (Array class n) f b = absurd (no_array_below _ _ f.0.dims (ap (λ (z : DexType). z.dims) f.1) linked.text_object b)
   text_sort Out f b = absurd (linked.text_stream (sym (only_class _ _ linked.text_object linked.text_closed b)))
   text_sort Builder f b = absurd (linked.text_builder (sym (only_class _ _ linked.text_object linked.text_closed b)))
-  text_sort Constant f b = absurd (linked.text_object (sym (only_class _ _ linked.text_object linked.text_closed b)))
+  text_sort (Constant made) f b = absurd (linked.text_object (sym (only_class _ _ linked.text_object linked.text_closed b)))
 
   -- what is below StringBuilder is a builder
   pub builder_sort : (sort : Sort) → SortFits p sort → IsBelow p (held p (type_of p sort)) (class_type (number_of p string_builder_name)) → sort ≡ Builder
@@ -319,8 +352,8 @@ module _ (p : Program) (linked : IsLinked p) where
   builder_sort (Instance class n) f b = absurd (f.no_builder (only_class class _ linked.builder_object linked.builder_closed b))
   builder_sort (Array class n) f b = absurd (no_array_below _ _ f.0.dims (ap (λ (z : DexType). z.dims) f.1) linked.builder_object b)
   builder_sort Out f b = absurd (linked.builder_stream (sym (only_class _ _ linked.builder_object linked.builder_closed b)))
-  builder_sort Text f b = absurd (linked.text_builder (only_class _ _ linked.builder_object linked.builder_closed b))
-  builder_sort Constant f b = absurd (linked.builder_object (sym (only_class _ _ linked.builder_object linked.builder_closed b)))
+  builder_sort (Text units) f b = absurd (linked.text_builder (only_class _ _ linked.builder_object linked.builder_closed b))
+  builder_sort (Constant made) f b = absurd (linked.builder_object (sym (only_class _ _ linked.builder_object linked.builder_closed b)))
 
   throwable_above : (class : ℕ) → IsBelow p (held p (class_type class)) (class_type (number_of p throwable_name)) → Inherits p class (number_of p throwable_name)
   unfolding held held_base
@@ -342,6 +375,6 @@ module _ (p : Program) (linked : IsLinked p) where
   throwable_sort (Instance class n) f b = record { class = class; fields = n; is = refl; made = f; inherits = throwable_above class b }
   throwable_sort (Array class n) f b = absurd (no_array_below _ _ f.0.dims (ap (λ (z : DexType). z.dims) f.1) linked.throwable_object b)
   throwable_sort Out f b = absurd (linked.throwable_plain print_stream_name print_stream (throwable_above _ b))
-  throwable_sort Text f b = absurd (linked.throwable_plain string_name string (throwable_above _ b))
+  throwable_sort (Text units) f b = absurd (linked.throwable_plain string_name string (throwable_above _ b))
   throwable_sort Builder f b = absurd (linked.throwable_plain string_builder_name string_builder (throwable_above _ b))
-  throwable_sort Constant f b = absurd (linked.throwable_plain object_name object_itself (subst (λ z. Inherits p z (number_of p throwable_name)) (sym (number_object p)) (throwable_above _ b)))
+  throwable_sort (Constant made) f b = absurd (linked.throwable_plain object_name object_itself (subst (λ z. Inherits p z (number_of p throwable_name)) (sym (number_object p)) (throwable_above _ b)))

@@ -13,7 +13,7 @@ use Rattle.cc_meaning_typing.specs.Code.{type_of_class}
 use Rattle.cc_meaning_typing.specs.Types.{class_type}
 use Rattle.cc_meaning_typing.specs.Registers.{register_of, register_of_kind}
 use Rattle.cc_meaning_typing.specs.WellTyped.{is_of_file, is_file_interface, is_abstract_in_file, is_never_made, can_be_made}
-use Rattle.cc_sound_laws.proofs.Casts.{same_true, same_false}
+use Rattle.cc_sound_laws.proofs.Tests.{same_true, same_false}
 use Rattle.cc_meaning_fits.specs.Fits.{Heap, ValueFits, int as an_int, long as a_long, reference as a_reference, FitsType, ValuesFit, ObjectFits}
 use Rattle.cc_meaning_fits.specs.Premises.{IsLinked}
 use Rattle.cc_meaning_world.specs.Layouts.{shape, zeros, new_object}
