@@ -5,3 +5,7 @@ pub mod Cells
 pub mod Made
 pub mod Known
 pub mod Casts
+pub mod Acts
+pub mod Raising
+pub mod Rows
+pub mod Calls
