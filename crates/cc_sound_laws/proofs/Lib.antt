@@ -9,3 +9,5 @@ pub mod Acts
 pub mod Raising
 pub mod Rows
 pub mod Calls
+pub mod Pieces
+pub mod Here
