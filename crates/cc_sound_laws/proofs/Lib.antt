@@ -11,3 +11,6 @@ pub mod Rows
 pub mod Calls
 pub mod Pieces
 pub mod Here
+pub mod Plain
+pub mod Objects
+pub mod Elements
