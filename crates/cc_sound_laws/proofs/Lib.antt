@@ -14,3 +14,4 @@ pub mod Here
 pub mod Plain
 pub mod Objects
 pub mod Elements
+pub mod Invokes

@@ -63,7 +63,7 @@ use Rattle.cc_meaning_exec.specs.Eval.{call}
 use Rattle.cc_meaning_exec.specs.Instructions.{value_at, make_of, cast_to, act_of}
 use Rattle.cc_meaning_exec.specs.Numbers.{operated, or_divided_by_zero, compares_zero, are_same, both, or_else, is_same_int, compares, branch, kept}
 use Rattle.cc_meaning_exec.specs.Registers.{onto, go_back, null_of, int_in, long_in, reference_in, value_in, cells_with, go_on, set_next, on_reference}
-use Rattle.cc_meaning_fits.specs.Fits.{ArgumentsFit, one, argument_types, Heap, Grows, RefFits, ValueFits, int as an_int, long as a_long, reference as a_reference, FitsType, ElementsFit, SortFits, CellFits, int, zero_int, zero_null, reference, fresh, AllFit, PendingFits, nothing, result, exception, FrameFits, ResultFits, void, gives, OutcomeFits}
+use Rattle.cc_meaning_fits.specs.Fits.{no_more, ArgumentsFit, one, argument_types, Heap, Grows, RefFits, ValueFits, int as an_int, long as a_long, reference as a_reference, FitsType, ElementsFit, SortFits, CellFits, int, zero_int, zero_null, reference, fresh, AllFit, PendingFits, nothing, result, exception, FrameFits, ResultFits, void, gives, OutcomeFits, IsThere, AreThere}
 use Rattle.cc_meaning_fits.specs.Premises.{IsRaised, null_pointer, out_of_bounds, array_store, class_cast, abstract_method, incompatible, arithmetic, negative_size, IsLinked, Constructs}
 use Rattle.cc_meaning_fits.specs.Soundness.{Takes, Safe}
 use Rattle.cc_meaning_rows.specs.Calls.{truth, row_of_call, is_same_object}
@@ -347,3 +347,14 @@ receiver_fits p h class a g = a_reference {o = Some a} g
 pub with_receiver : (p : Program) (h : Heap) (callee : Method) (a : ℕ) (vs : List Value) → callee.is_static ≡ false → RefFits p h (held p (class_type callee.class)) (Some a) → ArgumentsFit p h callee.params vs → ArgumentsFit p h (argument_types callee) (value.Obj (Some a) ∷ vs)
 unfolding argument_types
 with_receiver p h callee a vs e g f = subst (λ b. ArgumentsFit p h (cond b callee.params (class_type callee.class ∷ callee.params)) (value.Obj (Some a) ∷ vs)) (sym e) (one (receiver_fits p h callee.class a g) f)
+
+pub value_there_is : (p : Program) (h : Heap) {a : RegType} {v : Value} → ValueFits p h a v → IsThere h v
+value_there_is p h an_int = tt
+value_there_is p h a_long = tt
+value_there_is p h (a_reference {o = None} f) = tt
+value_there_is p h (a_reference {o = Some a} f) = (f.0, f.1)
+
+-- the objects of arguments that fit are there
+pub arguments_there : (p : Program) (h : Heap) {types : List DexType} {vs : List Value} → ArgumentsFit p h types vs → AreThere h vs
+arguments_there p h no_more = tt
+arguments_there p h (one f fs) = (value_there_is p h f, arguments_there p h fs)
