@@ -15,3 +15,5 @@ pub mod Plain
 pub mod Objects
 pub mod Elements
 pub mod Invokes
+pub mod Places
+pub mod Steps
