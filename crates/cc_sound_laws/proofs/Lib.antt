@@ -17,3 +17,6 @@ pub mod Elements
 pub mod Invokes
 pub mod Places
 pub mod Steps
+pub mod Handlers
+pub mod Opening
+pub mod Evals
