@@ -144,11 +144,11 @@ fits_static p w f v fits g = record {
 
 -- ---- worlds that are written
 
-grows_object : (w : World) (o : Object) → Grows (heap_of w) (heap_of (with_object w o))
+pub grows_object : (w : World) (o : Object) → Grows (heap_of w) (heap_of (with_object w o))
 unfolding with_object
 grows_object w o a sort e = let x = at_heap w a sort e in ap (option_map sort_of) (at_old w.objects o x.0 a x.1) ∙ ap Some x.2
 
-fits_object : (p : Program) (w : World) (o : Object) → WorldFits p w → ObjectFits p (heap_of w) o → WorldFits p (with_object w o)
+pub fits_object : (p : Program) (w : World) (o : Object) → WorldFits p w → ObjectFits p (heap_of w) o → WorldFits p (with_object w o)
 unfolding with_object
 fits_object p w o fits f =
     let g = grows_object w o in
@@ -162,7 +162,7 @@ fits_object p w o fits f =
       constants = λ i m e. g m.number (Constant m.what) (fits.constants i m e);
     }
 
-new_object_at : (w : World) (o : Object) → heap_of (with_object w o) (length w.objects) ≡ Some (sort_of o)
+pub new_object_at : (w : World) (o : Object) → heap_of (with_object w o) (length w.objects) ≡ Some (sort_of o)
 unfolding with_object
 new_object_at w o = ap (option_map sort_of) (at_new w.objects o)
 
@@ -193,7 +193,7 @@ fits_put p w a o new e same fits f =
       constants = λ i m d. g m.number (Constant m.what) (fits.constants i m d);
     }
 
-fits_words : (p : Program) (w : World) (n : ℕ) → WorldFits p w → WorldFits p (with_words w n)
+pub fits_words : (p : Program) (w : World) (n : ℕ) → WorldFits p w → WorldFits p (with_words w n)
 unfolding with_words
 fits_words p w n fits = record { objects = fits.objects; statics = fits.statics; literals = fits.literals; constants = fits.constants }
 

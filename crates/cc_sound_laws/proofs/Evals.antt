@@ -43,7 +43,7 @@ use Rattle.cc_sound_laws.proofs.Handlers.{handler_found, taken_below, needed_thr
 use Rattle.cc_sound_laws.proofs.Opening.{entry_stands}
 
 -- an end that is an exception or a stop
-FailsFit : Program → Heap → End → Type 0
+pub FailsFit : Program → Heap → End → Type 0
 FailsFit p h (Thrown a) = ThrownFits p h a
 FailsFit p h (Stopped c) = Unit {0}
 FailsFit p h (Returned v) = ⊥
@@ -53,10 +53,10 @@ module _ {T : Type 0} (hook : Hook T) (p : Program) (linked : IsLinked p) (scrip
   abbrev Body_of : {h : Heap} {f : Frame} → Stands p h f → Body
   Body_of at = record { program = p; method = at.method; code = at.code }
 
-  ran_later : (h h' : Heap) (type : Option DexType) (r : Ran T) → Grows h h' → RanFits p h' type r → RanFits p h type r
+  pub ran_later : (h h' : Heap) (type : Option DexType) (r : Ran T) → Grows h h' → RanFits p h' type r → RanFits p h type r
   ran_later h h' type (ran e w t) g f = (f.0, grows_trans h h' (heap_of w) g f.1, f.2)
 
-  GoFits : Go T → Type 0
+  pub GoFits : Go T → Type 0
   GoFits go = (f : Frame) (w : World) (t : T) → WorldFits p w → (at : Stands p (heap_of w) f) → RanFits p (heap_of w) at.method.result (go f w t)
 
   later_stands : (h h' : Heap) (f : Frame) (at : Stands p h f) → Grows h h' → Stands p h' f
@@ -89,10 +89,10 @@ module _ {T : Type 0} (hook : Hook T) (p : Program) (linked : IsLinked p) (scrip
   -- ---- ends that fail
 
   -- an exception or a stop, in a world that fits
-  abbrev RaisedFits : Heap → Raised → Type 0
+  abbrev pub RaisedFits : Heap → Raised → Type 0
   RaisedFits h r = WorldFits p r.world × Grows h (heap_of r.world) × FailsFit p (heap_of r.world) r.end
 
-  fails_end : (h : Heap) (type : Option DexType) (e : End) → FailsFit p h e → EndFits p h type e
+  pub fails_end : (h : Heap) (type : Option DexType) (e : End) → FailsFit p h e → EndFits p h type e
   unfolding FailsFit
   fails_end h type (Thrown a) f = f
   fails_end h type (Stopped c) f = tt
@@ -234,7 +234,7 @@ module _ {T : Type 0} (hook : Hook T) (p : Program) (linked : IsLinked p) (scrip
     replied_fits m args stack w (Here t) fits call f = told_fits (heap_of w) call.callee.result m _ (body_fits (room_for p m stack) m args stack w t fits call)
     replied_fits m args stack w (Answer e w' t) fits call f = f
 
-    call_fits : (m : ℕ) (args : List Value) (stack : Stack) (w : World) (t : T) → WorldFits p w → (c : CallFits p (heap_of w) m args) → RanFits p (heap_of w) c.callee.result (call hook go script p m args stack w t)
+    pub call_fits : (m : ℕ) (args : List Value) (stack : Stack) (w : World) (t : T) → WorldFits p w → (c : CallFits p (heap_of w) m args) → RanFits p (heap_of w) c.callee.result (call hook go script p m args stack w t)
     unfolding call
     call_fits m args stack w t fits c = replied_fits m args stack w (hook.entry m args stack w t) fits c (answers m args stack w t fits c)
 
@@ -301,7 +301,7 @@ module _ {T : Type 0} (hook : Hook T) (p : Program) (linked : IsLinked p) (scrip
 
     module _ (h : Heap) (type : Option DexType) (stack : Stack) (fail : Fails T) (fails : (e : End) (w : World) (t : T) → WorldFits p w → Grows h (heap_of w) → FailsFit p (heap_of w) e → RanFits p h type (fail e w t)) where
       -- it goes on in each world that fits and has the objects of the start
-      abbrev GoesOn : (World → T → Ran T) → Type 0
+      abbrev pub GoesOn : (World → T → Ran T) → Type 0
       GoesOn further = (w : World) (t : T) → WorldFits p w → Grows h (heap_of w) → RanFits p h type (further w t)
 
       initialised_fits : (class : ℕ) (cs : List ℕ) (further : World → T → Ran T) (result : Option DexType) (h2 : Heap) (r : Ran T) → GoesOn further → Grows h h2 → RanFits p h2 result r → RanFits p h type (initialised script p fail class cs further r)
@@ -329,7 +329,7 @@ module _ {T : Type 0} (hook : Hook T) (p : Program) (linked : IsLinked p) (scrip
       valued_fits class cs further (Thrown a) w t goes fits g f = absurd f
       valued_fits class cs further Jammed w t goes fits g f = absurd f
 
-      starts_fit : (further : World → T → Ran T) (cs : List ℕ) → GoesOn further → GoesOn (starts hook go script p stack fail further cs)
+      pub starts_fit : (further : World → T → Ran T) (cs : List ℕ) → GoesOn further → GoesOn (starts hook go script p stack fail further cs)
       unfolding starts valued_in
       starts_fit further [] goes w t fits g = goes w t fits g
       starts_fit further (c ∷ cs) goes w t fits g =
@@ -337,7 +337,7 @@ module _ {T : Type 0} (hook : Hook T) (p : Program) (linked : IsLinked p) (scrip
           valued_fits c cs (starts hook go script p stack fail further cs) _ _ t (starts_fit further cs goes) r.0 (grows_trans h (heap_of w) _ g r.1) r.2
 
       -- classes that are to be started are, or a failed one stands above them
-      opened_fits : (refused : Bool) (k : Climbed) (further : List ℕ → World → T → Ran T) (w : World) (t : T) → ((cs : List ℕ) → GoesOn (further cs)) → WorldFits p w → Grows h (heap_of w) → RanFits p h type (opened_if refused script p fail further k w t)
+      pub opened_fits : (refused : Bool) (k : Climbed) (further : List ℕ → World → T → Ran T) (w : World) (t : T) → ((cs : List ℕ) → GoesOn (further cs)) → WorldFits p w → Grows h (heap_of w) → RanFits p h type (opened_if refused script p fail further k w t)
       unfolding opened_if with_statuses
       opened_fits true k further w t goes fits g =
           let r = start_refused_fits k.todo (with_statuses w k.statuses) (statuses_fit w k.statuses fits) in
@@ -372,10 +372,11 @@ module _ {T : Type 0} (hook : Hook T) (p : Program) (linked : IsLinked p) (scrip
         rw (code_is p f.method at.method at.code at.named at.kind, step.1)
         (turn_if f w (with_instructions w k) (hook.spent f.method t) (record { objects = fits.objects; statics = fits.statics; literals = fits.literals; constants = fits.constants }) at step.0 step.1 (class_needed p (Some step.0.insn)) refl)
 
-  pub evals_fit : (n : ℕ) (f : Frame) (w : World) (t : T) → WorldFits p w → (at : Stands p (heap_of w) f) → RanFits p (heap_of w) at.method.result (eval_with hook script p n f w t)
+  pub evals_fit : (n : ℕ) → GoFits (eval_with hook script p n)
   unfolding GoFits eval_with
   evals_fit zero f w t fits at = (fits, λ a s e. e, tt)
   evals_fit (suc n) f w t fits at = turn_fits (eval_with hook script p n) (evals_fit n) f w.counters.instructions w t fits at
 
 pub eval_sound : StepIsSound → {T : Type 0} (hook : Hook T) (script : Script) (p : Program) → EvalIsSound hook script p
+unfolding GoFits
 eval_sound steps hook script p linked scripted typed answers n = evals_fit hook p linked script scripted typed steps answers n

@@ -20,3 +20,4 @@ pub mod Steps
 pub mod Handlers
 pub mod Opening
 pub mod Evals
+pub mod Runs
