@@ -85,14 +85,23 @@ MadeType p _ = Unit {0}
 abbrev pub ArrayNamed : Program → DexType → Type 0
 ArrayNamed p named = is_array named ≡ true → (class : ℕ) × (array_class p named ≡ Some class) × (type_of_class p class ≡ named)
 
--- A constructor that an `invoke-direct` names is one of the named class or of a class above it, where that is no interface.
-abbrev pub Constructs : Program → Insn → Type 0
-Constructs p (insn.Invoke how.Direct (ref.Known class m) args) =
+-- what an instruction makes by a type is of that type: an instance of no array's class, an array of a class of the program
+abbrev pub MakesNamed : Program → Insn → Type 0
+MakesNamed p (insn.NewInstance to (type.Known named)) = MadeType p named.base
+MakesNamed p (insn.NewArray to size (type.Known named)) = ArrayNamed p named
+MakesNamed p (insn.FilledNewArray (type.Known named) args) = ArrayNamed p named
+MakesNamed p _ = Unit {0}
+
+-- a constructor that a direct call names is one of the named class or of a class above it, where that is no interface
+abbrev pub ConstructsNamed : Program → Insn → Type 0
+ConstructsNamed p (insn.Invoke how.Direct (ref.Known class m) args) =
     (callee : Method) → slice_get p.methods m ≡ Some callee → is_constructor callee ≡ true → is_file_interface (slice_get p.classes class) ≡ false → IsBelow p (held p (class_type class)) (held p (type_of_class p callee.class))
-Constructs p (insn.NewInstance to (type.Known named)) = MadeType p named.base
-Constructs p (insn.NewArray to size (type.Known named)) = ArrayNamed p named
-Constructs p (insn.FilledNewArray (type.Known named) args) = ArrayNamed p named
-Constructs p _ = Unit {0}
+ConstructsNamed p _ = Unit {0}
+
+-- Each constructor that code names belongs to the named class or to a class above it. It stands apart from what linking gives: resolution looks through the
+-- classes that a class lists as its interfaces, and nothing says that these are interfaces, so what a file spells doesn't rule out a constructor of one of them.
+abbrev pub ConstructorsStand : Program → Type 0
+ConstructorsStand p = (m : ℕ) (method : Method) (code : Code) → slice_get p.methods m ≡ Some method → method.kind ≡ kinds.Code code → All (λ (placed : Placed). ConstructsNamed p placed.insn) code.insns
 
 -- ---- the built-in methods
 
@@ -173,9 +182,8 @@ pub record IsLinked (p : Program) : Type 0 where
       (i : ℕ) × (slot p class f ≡ Some i) × (slice_get (shape p class) i ≡ Some field.ty)
   -- a method with code belongs to a class that is no array
   pub owners : (m : ℕ) (method : Method) (code : Code) → slice_get p.methods m ≡ Some method → method.kind ≡ kinds.Code code → type_of_class p method.class ≡ class_type method.class
-  -- Resolution gives what instructions name: a constructor of the named class or of one above it, no array's class by its number, and array types of the program.
-  -- Nothing says yet that what a class lists as its interfaces are interfaces, so of a constructor this doesn't follow from what a file spells.
-  pub constructors : (m : ℕ) (method : Method) (code : Code) → slice_get p.methods m ≡ Some method → method.kind ≡ kinds.Code code → All (λ (placed : Placed). Constructs p placed.insn) code.insns
+  -- what code makes by a type is of that type
+  pub makes : (m : ℕ) (method : Method) (code : Code) → slice_get p.methods m ≡ Some method → method.kind ≡ kinds.Code code → All (λ (placed : Placed). MakesNamed p placed.insn) code.insns
   -- arrays' classes: none is above another class, each has its type's name, and Object alone is above it
   pub plain_type : (name : List ℕ) → IsPlain name → type_of_class p (number_of p name) ≡ class_type (number_of p name)
   pub above_type : (class above : ℕ) → superclass_of p class ≡ Some above → type_of_class p above ≡ class_type above

@@ -23,7 +23,7 @@ use Rattle.cc_meaning_exec.specs.Frames.{Frame, frame_for}
 use Rattle.cc_meaning_exec.specs.Instructions.{act_at}
 use Rattle.cc_meaning_exec.specs.Runs.{report_of, run_with, local}
 use Rattle.cc_meaning_fits.specs.Fits.{Heap, heap_of, Grows, FitsType, ObjectFits, WorldFits, FrameFits, literal_sort, AreThere, ResultFits, CallFits, ThrownFits, OutcomeFits}
-use Rattle.cc_meaning_fits.specs.Premises.{IsLinked, OutFits, MainFits, ScriptFits}
+use Rattle.cc_meaning_fits.specs.Premises.{IsLinked, ConstructorsStand, OutFits, MainFits, ScriptFits}
 use Rattle.cc_meaning_world.specs.Acts.{Outcome, Throws, Act, Literal, ClassConstant, Done, Make, Look, ClassOf, Put, Append, GetStatic, PutStatic, Tell, Ask}
 use Rattle.cc_meaning_world.specs.Layouts.{shape}
 use Rattle.cc_meaning_world.specs.Opening.{opening_world}
@@ -91,13 +91,13 @@ pub record Stands (p : Program) (h : Heap) (f : Frame) : Type 0 where
 
 -- An instruction's act is safe in each frame that stands, and leads to what fits.
 abbrev pub StepIsSound : Type 0
-StepIsSound = (p : Program) → IsLinked p → WellTyped p → (h : Heap) (f : Frame) (at : Stands p h f) →
+StepIsSound = (p : Program) → IsLinked p → ConstructorsStand p → WellTyped p → (h : Heap) (f : Frame) (at : Stands p h f) →
     (placed : Placed) × (placed_at at.code f.pc ≡ Some placed)
     × Safe p (OutcomeFits (record { program = p; method = at.method; code = at.code }) placed at.state f.locals) h (act_at p f.method f.pc f.locals)
 
 -- A run from a frame that stands, in a world that fits, under a script and a hook whose answers fit, ends in a world that fits with an end that fits: never Jammed.
 abbrev pub EvalIsSound : {T : Type 0} → Hook T → Script → Program → Type 0
-EvalIsSound {T} hook script p = IsLinked p → ScriptFits p script → WellTyped p → HookFits hook p →
+EvalIsSound {T} hook script p = IsLinked p → ConstructorsStand p → ScriptFits p script → WellTyped p → HookFits hook p →
     (n : ℕ) (f : Frame) (w : World) (t : T) → WorldFits p w → (at : Stands p (heap_of w) f) → RanFits p (heap_of w) at.method.result (eval_with hook script p n f w t)
 
 -- ---- a whole run
@@ -112,10 +112,10 @@ EntryStands = (p : Program) (h : Heap) (m : ℕ) (args : List Value) (stack : St
 
 -- A well typed program is never stuck: its run on one heap, under a hook whose answers fit, has a report.
 abbrev pub RunHasReport : {T : Type 0} → Hook T → Script → Program → Type 0
-RunHasReport {T} hook script p = IsLinked p → OutFits p → MainFits p → ScriptFits p script → WellTyped p → HookFits hook p →
+RunHasReport {T} hook script p = IsLinked p → ConstructorsStand p → OutFits p → MainFits p → ScriptFits p script → WellTyped p → HookFits hook p →
     (texts : List (List ℕ)) (limits : Limits) (t : T) → (report : Report) × (report_of limits (run_with hook script p texts limits t) ≡ Some report)
 
 -- The same of the run that no hook answers for.
 abbrev pub LocalHasReport : Type 0
-LocalHasReport = (script : Script) (p : Program) → IsLinked p → OutFits p → MainFits p → ScriptFits p script → WellTyped p →
+LocalHasReport = (script : Script) (p : Program) → IsLinked p → ConstructorsStand p → OutFits p → MainFits p → ScriptFits p script → WellTyped p →
     (texts : List (List ℕ)) (limits : Limits) → (report : Report) × (local script p texts limits ≡ Some report)

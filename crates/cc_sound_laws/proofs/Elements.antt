@@ -64,7 +64,7 @@ use Rattle.cc_meaning_exec.specs.Instructions.{value_at, make_of, cast_to, act_o
 use Rattle.cc_meaning_exec.specs.Numbers.{operated, or_divided_by_zero, compares_zero, are_same, both, or_else, is_same_int, compares, branch, kept}
 use Rattle.cc_meaning_exec.specs.Registers.{onto, go_back, null_of, int_in, long_in, reference_in, value_in, cells_with, go_on, set_next, on_reference, on_value_of, cell_at}
 use Rattle.cc_meaning_fits.specs.Fits.{ArgumentsFit, one, argument_types, Heap, Grows, RefFits, ValueFits, int as an_int, long as a_long, reference as a_reference, FitsType, ElementsFit, SortFits, CellFits, int, zero_int, zero_null, reference, fresh, AllFit, PendingFits, nothing, result, exception, FrameFits, ResultFits, void, gives, OutcomeFits}
-use Rattle.cc_meaning_fits.specs.Premises.{IsRaised, null_pointer, out_of_bounds, array_store, class_cast, abstract_method, incompatible, arithmetic, negative_size, IsLinked, Constructs}
+use Rattle.cc_meaning_fits.specs.Premises.{IsRaised, null_pointer, out_of_bounds, array_store, class_cast, abstract_method, incompatible, arithmetic, negative_size, IsLinked, MakesNamed}
 use Rattle.cc_meaning_fits.specs.Soundness.{Takes, Safe}
 use Rattle.cc_meaning_rows.specs.Calls.{truth, row_of_call, is_same_object}
 use Rattle.cc_meaning_rows.specs.Rows.{built_in}
@@ -194,7 +194,7 @@ module _ (here : Here) where
   unfolding class_of_named
   array_numbered named class e = ap (λ z. unwrap_or z 0) e
 
-  pub new_array : (to size : ℕ) (named : DexType) → Accepts body at s (insn.NewArray to size (type.Known named)) → Constructs p (insn.NewArray to size (type.Known named)) → Sound here (insn.NewArray to size (type.Known named))
+  pub new_array : (to size : ℕ) (named : DexType) → Accepts body at s (insn.NewArray to size (type.Known named)) → MakesNamed p (insn.NewArray to size (type.Known named)) → Sound here (insn.NewArray to size (type.Known named))
   unfolding act_of make_array zero_elements sort_of registers_after pending_after write_named successors successors_of can_throw
   new_array to size named a named_so =
       let c = named_so a.1 in
@@ -217,7 +217,7 @@ module _ (here : Here) where
   unfolding register_of register_of_kind
   array_value h' named x r g = subst (λ k. ValueFits p h' (register_of_kind p named k) (value.Obj (Some x))) (sym (array_kind named r)) (a_reference {o = Some x} g)
 
-  pub filled_new_array : (named : DexType) (args : List ℕ) → Accepts body at s (insn.FilledNewArray (type.Known named) args) → Constructs p (insn.FilledNewArray (type.Known named) args) → Sound here (insn.FilledNewArray (type.Known named) args)
+  pub filled_new_array : (named : DexType) (args : List ℕ) → Accepts body at s (insn.FilledNewArray (type.Known named) args) → MakesNamed p (insn.FilledNewArray (type.Known named) args) → Sound here (insn.FilledNewArray (type.Known named) args)
   unfolding act_of make_array go_back sort_of after registers_after pending_after pending_array successors successors_of
   filled_new_array named args a named_so =
       let c = named_so a.0 in

@@ -32,7 +32,7 @@ use Rattle.cc_meaning_exec.specs.Exceptions.{End, Returned, Thrown, Stopped, Jam
 use Rattle.cc_meaning_exec.specs.Starts.{ready, failed, Climbed, climbed, class_needed, climb_from, starting, statics_from, stated_in, put_values, values_act, put_statics, initialiser_in, initialiser_of, with_failed, failed_with, all_fail, is_error_in, wrapped_if, wrapped, start_failed, start_refused}
 use Rattle.cc_meaning_exec.specs.Eval.{Ran, ran, Reply, Here, Answer, Hook, Go, caught, thrown, failing, resume, told, as_ran, body_if, body, replied, call, after, told_calls, after_acts, acts_at, Fails, initialised, initialise, valued, valued_in, starts, started, opened_if, opened, turn, eval_with}
 use Rattle.cc_meaning_fits.specs.Fits.{literal_sort, ValueFits, int, long, reference, FitsType, ArgumentsFit, no_more, argument_types, Heap, heap_of, Grows, RefFits, SortFits, FrameFits, exception, CallFits, ResultFits, ThrownFits, OutcomeFits, WorldFits}
-use Rattle.cc_meaning_fits.specs.Premises.{IsRaised, stack_overflow, no_class, in_initializer, StatedFits, StatedIn, AllStated, ScriptFits, IsLinked}
+use Rattle.cc_meaning_fits.specs.Premises.{IsRaised, stack_overflow, no_class, in_initializer, StatedFits, StatedIn, AllStated, ScriptFits, IsLinked, ConstructorsStand}
 use Rattle.cc_meaning_fits.specs.Soundness.{Safe, EndFits, RanFits, ReplyFits, HookFits, Stands, StepIsSound, EvalIsSound}
 use Rattle.cc_sound_laws.proofs.Lists.{all_contains}
 use Rattle.cc_sound_laws.proofs.Growing.{frame_grows, all_grow, frame_covered, grows_trans}
@@ -49,7 +49,7 @@ FailsFit p h (Stopped c) = Unit {0}
 FailsFit p h (Returned v) = ⊥
 FailsFit p h Jammed = ⊥
 
-module _ {T : Type 0} (hook : Hook T) (p : Program) (linked : IsLinked p) (script : Script) (scripted : ScriptFits p script) (typed : WellTyped p) (steps : StepIsSound) (answers : HookFits hook p) where
+module _ {T : Type 0} (hook : Hook T) (p : Program) (linked : IsLinked p) (constructs : ConstructorsStand p) (script : Script) (scripted : ScriptFits p script) (typed : WellTyped p) (steps : StepIsSound) (answers : HookFits hook p) where
   abbrev Body_of : {h : Heap} {f : Frame} → Stands p h f → Body
   Body_of at = record { program = p; method = at.method; code = at.code }
 
@@ -253,7 +253,7 @@ module _ {T : Type 0} (hook : Hook T) (p : Program) (linked : IsLinked p) (scrip
     acts_fit : (f : Frame) (w : World) (t : T) → WorldFits p w → (at : Stands p (heap_of w) f) → RanFits p (heap_of w) at.method.result (after_acts hook go script p f (acts_at script p f w) t)
     unfolding after_acts acts_at
     acts_fit f w t fits at =
-        let step = steps p linked typed (heap_of w) f at in
+        let step = steps p linked constructs typed (heap_of w) f at in
         let e = run_safe p linked script scripted (OutcomeFits (Body_of at) step.0 at.state f.locals) (λ h c. tt) (act_at p f.method f.pc f.locals) w fits step.2 in
         ran_later (heap_of w) _ at.method.result _ e.grows (after_fits (heap_of w) f at step.0 step.1 _ _ (told_calls hook _ t) e.world e.grows e.leads)
 
@@ -368,7 +368,7 @@ module _ {T : Type 0} (hook : Hook T) (p : Program) (linked : IsLinked p) (scrip
     unfolding turn with_instructions starting insn_of_method insn_in placed_in
     turn_fits f zero w t fits at = (fits, λ a s e. e, tt)
     turn_fits f (suc k) w t fits at =
-        let step = steps p linked typed (heap_of w) f at in
+        let step = steps p linked constructs typed (heap_of w) f at in
         rw (code_is p f.method at.method at.code at.named at.kind, step.1)
         (turn_if f w (with_instructions w k) (hook.spent f.method t) (record { objects = fits.objects; statics = fits.statics; literals = fits.literals; constants = fits.constants }) at step.0 step.1 (class_needed p (Some step.0.insn)) refl)
 
@@ -379,4 +379,4 @@ module _ {T : Type 0} (hook : Hook T) (p : Program) (linked : IsLinked p) (scrip
 
 pub eval_sound : StepIsSound → {T : Type 0} (hook : Hook T) (script : Script) (p : Program) → EvalIsSound hook script p
 unfolding GoFits
-eval_sound steps hook script p linked scripted typed answers n = evals_fit hook p linked script scripted typed steps answers n
+eval_sound steps hook script p linked constructs scripted typed answers n = evals_fit hook p linked constructs script scripted typed steps answers n

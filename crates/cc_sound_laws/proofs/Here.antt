@@ -64,7 +64,7 @@ use Rattle.cc_meaning_exec.specs.Instructions.{value_at, make_of, cast_to, act_o
 use Rattle.cc_meaning_exec.specs.Numbers.{operated, or_divided_by_zero, compares_zero, are_same, both, or_else, is_same_int, compares, branch}
 use Rattle.cc_meaning_exec.specs.Registers.{onto, go_back, null_of, int_in, long_in, reference_in, value_in, cells_with, go_on, set_next, on_reference, on_reference_or_null, on_int, on_long, cell_at}
 use Rattle.cc_meaning_fits.specs.Fits.{ArgumentsFit, one, argument_types, Heap, Grows, RefFits, ValueFits, int as an_int, long as a_long, reference as a_reference, FitsType, ElementsFit, SortFits, CellFits, int, zero_int, zero_null, reference, fresh, AllFit, PendingFits, nothing, result, exception, FrameFits, ResultFits, void, gives, OutcomeFits}
-use Rattle.cc_meaning_fits.specs.Premises.{IsRaised, null_pointer, out_of_bounds, array_store, class_cast, abstract_method, incompatible, arithmetic, negative_size, IsLinked, Constructs}
+use Rattle.cc_meaning_fits.specs.Premises.{IsRaised, null_pointer, out_of_bounds, array_store, class_cast, abstract_method, incompatible, arithmetic, negative_size, IsLinked}
 use Rattle.cc_meaning_fits.specs.Soundness.{Takes, Safe}
 use Rattle.cc_meaning_rows.specs.Calls.{truth, row_of_call, is_same_object}
 use Rattle.cc_meaning_rows.specs.Rows.{built_in}

@@ -21,3 +21,4 @@ pub mod Handlers
 pub mod Opening
 pub mod Evals
 pub mod Runs
+pub mod Laws

@@ -64,7 +64,7 @@ use Rattle.cc_meaning_exec.specs.Instructions.{value_at, make_of, cast_to, act_o
 use Rattle.cc_meaning_exec.specs.Numbers.{operated, or_divided_by_zero, compares_zero, are_same, both, or_else, is_same_int, compares, branch, kept}
 use Rattle.cc_meaning_exec.specs.Registers.{onto, go_back, null_of, int_in, long_in, reference_in, value_in, cells_with, go_on, set_next, on_reference, on_value_of, on_reference_or_null, cell_at}
 use Rattle.cc_meaning_fits.specs.Fits.{ArgumentsFit, one, argument_types, Heap, Grows, RefFits, ValueFits, int as an_int, long as a_long, reference as a_reference, FitsType, ElementsFit, SortFits, CellFits, int, zero_int, zero_null, reference, fresh, AllFit, PendingFits, nothing, result, exception, FrameFits, ResultFits, void, gives, OutcomeFits}
-use Rattle.cc_meaning_fits.specs.Premises.{IsRaised, null_pointer, out_of_bounds, array_store, class_cast, abstract_method, incompatible, arithmetic, negative_size, IsLinked, Constructs}
+use Rattle.cc_meaning_fits.specs.Premises.{IsRaised, null_pointer, out_of_bounds, array_store, class_cast, abstract_method, incompatible, arithmetic, negative_size, IsLinked, MakesNamed}
 use Rattle.cc_meaning_fits.specs.Soundness.{Takes, Safe}
 use Rattle.cc_meaning_rows.specs.Calls.{truth, row_of_call, is_same_object}
 use Rattle.cc_meaning_rows.specs.Rows.{built_in}
@@ -180,7 +180,7 @@ module _ (here : Here) where
   made_here to class spot = rw spot refl
 
   pub new_instance : (to dims : ℕ) (b : Base) → placed_at body.code at ≡ Some (placed here (insn.NewInstance to (type.Known (typed dims b)))) → Accepts body at s (insn.NewInstance to (type.Known (typed dims b))) →
-      KnowsMember body (insn.NewInstance to (type.Known (typed dims b))) → Constructs p (insn.NewInstance to (type.Known (typed dims b))) → Sound here (insn.NewInstance to (type.Known (typed dims b)))
+      KnowsMember body (insn.NewInstance to (type.Known (typed dims b))) → MakesNamed p (insn.NewInstance to (type.Known (typed dims b))) → Sound here (insn.NewInstance to (type.Known (typed dims b)))
   unfolding act_of make_of set_next go_on cells_with after registers_after pending_after successors successors_of is_reference is_reference_in is_class
   new_instance to (suc dims) b spot a m t = absurd m
   new_instance to zero (base.Class class) spot a m t = (

@@ -30,7 +30,7 @@ use Rattle.cc_meaning_exec.specs.Starts.{Climbed, class_of_main, climb_from}
 use Rattle.cc_meaning_exec.specs.Eval.{Ran, ran, Here, Hook, Go, call, starts, opened, eval_with}
 use Rattle.cc_meaning_exec.specs.Runs.{launched, run_main, begun, begun_in, with_made_arguments, run_with, onlooker, opening_invocations, Invocations, text_at, thrown_ending, ending_of, report_in, report_of, onlooked, local}
 use Rattle.cc_meaning_fits.specs.Fits.{ElementsFit, one, reference, FitsType, ArgumentsFit, no_more, argument_types, Heap, heap_of, Grows, SortFits, CallFits, ThrownFits, ObjectFits, WorldFits}
-use Rattle.cc_meaning_fits.specs.Premises.{MainFits, ScriptFits, IsLinked}
+use Rattle.cc_meaning_fits.specs.Premises.{MainFits, ScriptFits, IsLinked, ConstructorsStand}
 use Rattle.cc_meaning_fits.specs.Soundness.{EndFits, RanFits, HookFits, StepIsSound, OpeningFits, RunHasReport, LocalHasReport}
 use Rattle.cc_sound_laws.proofs.Growing.{value_grows, grows_trans}
 use Rattle.cc_sound_laws.proofs.Acts.{at_heap, grows_object, fits_object, new_object_at, fits_words}
@@ -163,7 +163,7 @@ thrown_end p linked w a f =
 
 -- ---- a run
 
-module _ {T : Type 0} (hook : Hook T) (p : Program) (linked : IsLinked p) (script : Script) (scripted : ScriptFits p script) (typed : WellTyped p) (steps : StepIsSound) (answers : HookFits hook p) (main : MainFits p) where
+module _ {T : Type 0} (hook : Hook T) (p : Program) (linked : IsLinked p) (constructs : ConstructorsStand p) (script : Script) (scripted : ScriptFits p script) (typed : WellTyped p) (steps : StepIsSound) (answers : HookFits hook p) (main : MainFits p) where
   main_called : (h : Heap) (v : Value) → FitsType p h (array_of (string_type p)) v → CallFits p h p.main (v ∷ [])
   unfolding argument_types
   main_called h v f = record {
@@ -178,23 +178,23 @@ module _ {T : Type 0} (hook : Hook T) (p : Program) (linked : IsLinked p) (scrip
     main_fits : (w : World) (t : T) → WorldFits p w → Grows h (heap_of w) → RanFits p h main.method.result (call hook (eval_with hook script p n) script p p.main (v ∷ []) no_frames w t)
     unfolding main_called
     main_fits w t fits g =
-        ran_later hook p linked script scripted typed steps answers h (heap_of w) main.method.result _ g
-        (call_fits hook p linked script scripted typed steps answers (eval_with hook script p n) (evals_fit hook p linked script scripted typed steps answers n) p.main (v ∷ []) no_frames w t fits (main_called (heap_of w) v (value_grows p h (heap_of w) g there)))
+        ran_later hook p linked constructs script scripted typed steps answers h (heap_of w) main.method.result _ g
+        (call_fits hook p linked constructs script scripted typed steps answers (eval_with hook script p n) (evals_fit hook p linked constructs script scripted typed steps answers n) p.main (v ∷ []) no_frames w t fits (main_called (heap_of w) v (value_grows p h (heap_of w) g there)))
 
     -- what fails in a start is the run's end
     ends : (e : End) (w : World) (t : T) → WorldFits p w → Grows h (heap_of w) → FailsFit p (heap_of w) e → RanFits p h main.method.result (ran e w t)
-    ends e w t fits g f = (fits, g, fails_end hook p linked script scripted typed steps answers (heap_of w) main.method.result e f)
+    ends e w t fits g f = (fits, g, fails_end hook p linked constructs script scripted typed steps answers (heap_of w) main.method.result e f)
 
     launched_fits : (cs : List ℕ) (w : World) (t : T) → WorldFits p w → Grows h (heap_of w) → RanFits p h main.method.result (launched hook (eval_with hook script p n) script p p.main (v ∷ []) cs w t)
     unfolding launched
     launched_fits cs w t fits g =
-        starts_fit hook p linked script scripted typed steps answers (eval_with hook script p n) (evals_fit hook p linked script scripted typed steps answers n) h main.method.result no_frames ran ends _ cs main_fits w t fits g
+        starts_fit hook p linked constructs script scripted typed steps answers (eval_with hook script p n) (evals_fit hook p linked constructs script scripted typed steps answers n) h main.method.result no_frames ran ends _ cs main_fits w t fits g
 
     run_main_fits : (w : World) (t : T) → WorldFits p w → Grows h (heap_of w) → RanFits p h main.method.result (run_main hook script p n (v ∷ []) w t)
     unfolding run_main opened
     run_main_fits w t fits g =
         let k : Climbed = climb_from p (class_of_main p) w in
-        opened_fits hook p linked script scripted typed steps answers (eval_with hook script p n) (evals_fit hook p linked script scripted typed steps answers n) h main.method.result no_frames ran ends k.refused k _ w t launched_fits fits g
+        opened_fits hook p linked constructs script scripted typed steps answers (eval_with hook script p n) (evals_fit hook p linked constructs script scripted typed steps answers n) h main.method.result no_frames ran ends k.refused k _ w t launched_fits fits g
 
   run_fits : (limits : Limits) (texts : List (List ℕ)) (t : T) → WorldFits p (opening_world p limits) → RanFits p (heap_of (opening_world p limits)) main.method.result (run_with hook script p texts limits t)
   unfolding run_with begun_in begun end_of pay arrived with_made_arguments with_arguments paying raised_by with_words
@@ -210,7 +210,7 @@ module _ {T : Type 0} (hook : Hook T) (p : Program) (linked : IsLinked p) (scrip
       by None = (fits, λ a s e. e, tt)
       by (Some k) =
           let x = arguments_made p main texts (with_words w0 k) (fits_words p w0 k fits) in
-          ran_later hook p linked script scripted typed steps answers (heap_of w0) _ main.method.result _ x.grows
+          ran_later hook p linked constructs script scripted typed steps answers (heap_of w0) _ main.method.result _ x.grows
           (run_main_fits limits.instructions _ (value.Obj (Some (length w0.objects + length texts))) x.array _ t x.world (λ a s e. e))
 
   has_ending : (h : Heap) (type : Option DexType) (e : End) (w : World) (t : T) → RanFits p h type (ran e w t) → (ending : Ending) × (ending_of w e ≡ Some ending)
@@ -226,10 +226,10 @@ module _ {T : Type 0} (hook : Hook T) (p : Program) (linked : IsLinked p) (scrip
   has_report h type limits (ran e w t) f = let x = has_ending h type e w t f in (report_in limits w x.0, ap (option_map (report_in limits w)) x.1)
 
 pub run_sound : StepIsSound → OpeningFits → {T : Type 0} (hook : Hook T) (script : Script) (p : Program) → RunHasReport hook script p
-run_sound steps opens hook script p linked out main scripted typed answers texts limits t =
-    has_report hook p linked script scripted typed steps answers main _ _ limits _ (run_fits hook p linked script scripted typed steps answers main limits texts t (opens p limits linked out))
+run_sound steps opens hook script p linked constructs out main scripted typed answers texts limits t =
+    has_report hook p linked constructs script scripted typed steps answers main _ _ limits _ (run_fits hook p linked constructs script scripted typed steps answers main limits texts t (opens p limits linked out))
 
 pub local_sound : StepIsSound → OpeningFits → LocalHasReport
 unfolding local onlooked onlooker
-local_sound steps opens script p linked out main scripted typed texts limits =
-    run_sound steps opens (onlooker p.main) script p linked out main scripted typed (λ m args stack w t fits call. tt) texts limits (opening_invocations p.main)
+local_sound steps opens script p linked constructs out main scripted typed texts limits =
+    run_sound steps opens (onlooker p.main) script p linked constructs out main scripted typed (λ m args stack w t fits call. tt) texts limits (opening_invocations p.main)
