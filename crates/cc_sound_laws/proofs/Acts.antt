@@ -386,7 +386,7 @@ module _ (p : Program) (linked : IsLinked p) (script : Script) (scripted : Scrip
     asked_ends args w None e fits g f =
         let x = args_shown p w args f in
         let r = taken (heap_of w) (args_of p w.objects args) x.0 w _ x.1
-            (answered_ends (class_asked p m) x.0 w (next_answer script p m (cursor_at w (class_asked p m))) fits g (λ y d. next_fits p script scripted m _ callee there y d)) in
+        (answered_ends (class_asked p m) x.0 w (next_answer script p m (cursor_at w (class_asked p m))) fits g (λ y d. next_fits p script scripted m _ callee there y d)) in
         record { world = r.world; grows = r.grows; leads = r.leads }
 
   -- what was made before, or a new object that is noted
@@ -440,7 +440,7 @@ module _ (p : Program) (linked : IsLinked p) (script : Script) (scripted : Scrip
   run_safe (PutStatic f v k) w fits s = run_safe k (with_static w f v) (fits_static p w f v fits s.0) s.1
   run_safe (Tell m units k) w fits s =
       let e = paid (words_of_event (event.Print units)) w (λ w'. run_act script p k (with_event w' (event.Print units))) fits (λ n.
-          run_safe k (with_event (with_words w n) (event.Print units)) (record { objects = fits.objects; statics = fits.statics; literals = fits.literals; constants = fits.constants }) s) in
+      run_safe k (with_event (with_words w n) (event.Print units)) (record { objects = fits.objects; statics = fits.statics; literals = fits.literals; constants = fits.constants }) s) in
       record { world = e.world; grows = e.grows; leads = e.leads }
   run_safe (Ask m args k) w fits s =
       asked_ends m s.1 s.2 k (heap_of w) (λ w' v fits' g r. run_safe (k v) w' fits' (s.3 (heap_of w') v g r)) s.4 args w (free_answer script p m) refl fits (λ a sort d. d) s.0

@@ -245,8 +245,8 @@ module _ (here : Here) where
   unfolding fill_with
   filled i a class values u vs k c n e fs rest =
       cond_safe here (Goal here i) h (nat_le (length vs) (length values)) (fill a 0 vs k) (throw_new p array_index_out_of_bounds_exception_name)
-          (λ t. fill_safe p (Goal here i) a class (length values) u k n vs 0 h (at_most (length vs) (length values) t) e fs rest)
-          (λ t. raise here i h array_index_out_of_bounds_exception_name out_of_bounds c)
+      (λ t. fill_safe p (Goal here i) a class (length values) u k n vs 0 h (at_most (length vs) (length values) t) e fs rest)
+      (λ t. raise here i h array_index_out_of_bounds_exception_name out_of_bounds c)
 
   pub data_fit : (u : DexType) (width : ℕ) (bytes : List ℕ) (payload : Option Insn) → payload ≡ Some (insn.ArrayPayload width bytes) → number_width (kind_of u) ≡ Some width → AllFitType p h u (data_for u payload)
   unfolding data_for

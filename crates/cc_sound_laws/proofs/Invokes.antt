@@ -207,8 +207,8 @@ module _ (here : Here) where
     g.0,
     g.1,
     answered i class (type_of p g.0) _ c (searched_safe i n a callee vs type _ c next e g fit back (λ m d.
-    let x = search_found p (length p.classes) callee (class_of_type p (type_of p g.0).dims (type_of p g.0).base) m d in
-    found_enters i m a callee vs x c next (g.0, g.1, sort_up p linked g.0 x.callee.class g.3 x.inherits, g.3) fit back)),
+        let x = search_found p (length p.classes) callee (class_of_type p (type_of p g.0).dims (type_of p g.0).base) m d in
+        found_enters i m a callee vs x c next (g.0, g.1, sort_up p linked g.0 x.callee.class g.3 x.inherits, g.3) fit back)),
   )
 
   -- behind a call that constructs nothing the registers are the same
