@@ -1,0 +1,68 @@
+-- The laws of renaming and locality, and of faithful hooks: statements, which a crate above proves.
+use Rattle.std.specs.Prelude.{ℕ, ◌≤◌, ◌&&◌, Bool, true, List}
+use Rattle.cc_meaning.specs.declared.program.Program.{Program}
+use Rattle.cc_meaning.specs.declared.report.Limits.{Limits}
+use Rattle.cc_meaning.specs.declared.script.Script.{Script}
+use Rattle.cc_meaning.specs.declared.value.Value.{Value}
+use Rattle.cc_meaning_world.specs.World.{World, Locals, Stack}
+use Rattle.cc_meaning_world.specs.Opening.{out_object, opening_world}
+use Rattle.cc_meaning_world.specs.Acts.{Act, run_act}
+use Rattle.cc_meaning_rows.specs.Calls.{act_of_call}
+use Rattle.cc_meaning_exec.specs.Instructions.{act_at}
+use Rattle.cc_meaning_exec.specs.Eval.{Here, Hook, call, eval_with}
+use Rattle.cc_meaning_exec.specs.WorkedPrograms.{nowhere}
+use Rattle.cc_meaning_alike.specs.Maps.{Map, empty, link, OneToOne}
+use Rattle.cc_meaning_alike.specs.Worlds.{Each, AlikeValue, AlikeLocals, Alike, Start, start_at, Pair}
+use Rattle.cc_meaning_alike.specs.Acts.{AlikeAct, Reaches, asks_within}
+use Rattle.cc_meaning_alike.specs.Ends.{frame_at, AlikeRan}
+
+-- ---- acts
+
+-- alike acts, done in worlds that are alike, lead to alike outcomes in worlds that are alike
+abbrev pub RunsAreAlike : Type 0
+RunsAreAlike = (K : ℕ → Bool) (script : Script) (p : Program) (s : Start) (f : Map) (a1 a2 : Act) (w1 w2 : World) → AlikeAct p f a1 a2 → Pair K s f w1 w2 →
+    Reaches K script p s f (run_act script p a1 w1) (run_act script p a2 w2)
+
+-- at each address of each method, alike registers give alike acts
+abbrev pub InstructionsAreAlike : Type 0
+InstructionsAreAlike = (p : Program) (f : Map) (m pc : ℕ) (l1 l2 : Locals) → OneToOne f → AlikeLocals f l1 l2 → AlikeAct p f (act_at p m pc l1) (act_at p m pc l2)
+
+-- and so do alike arguments of each built-in method
+abbrev pub BuiltInCallsAreAlike : Type 0
+BuiltInCallsAreAlike = (p : Program) (f : Map) (m : ℕ) (args1 args2 : List Value) → OneToOne f → Each (AlikeValue f) args1 args2 → AlikeAct p f (act_of_call p m args1) (act_of_call p m args2)
+
+-- the opening world is alike itself, by the one object that it has
+abbrev pub OpeningIsAlike : Type 0
+OpeningIsAlike = (K : ℕ → Bool) (p : Program) (limits : Limits) → Alike K (link out_object out_object empty) (opening_world p limits) (opening_world p limits)
+
+-- ---- methods
+
+-- from worlds that are alike, a hook leads to what evaluating every call leads to on the other side
+abbrev pub HookIsFaithful : {T : Type 0} → (T → Bool) → (T → List ℕ → Type 0) → (ℕ → Bool) → Hook T → Script → Program → Type 0
+HookIsFaithful {T} ok Holds K hook script p =
+    (f : Map) (n m pc : ℕ) (stack : Stack) (l1 l2 : Locals) (w1 w2 : World) (t : T) → Alike K f w1 w2 → AlikeLocals f l1 l2 → w2.counters.instructions ≤ n → Holds t w1.cursors →
+    AlikeRan ok Holds K (start_at f w1 w2) f n (eval_with hook script p n (frame_at m pc stack l1) w1 t) (eval_with nowhere script p n (frame_at m pc stack l2) w2 tt)
+
+-- the same from the call of a method on
+abbrev pub CallIsFaithful : {T : Type 0} → (T → Bool) → (T → List ℕ → Type 0) → (ℕ → Bool) → Hook T → Script → Program → Type 0
+CallIsFaithful {T} ok Holds K hook script p =
+    (f : Map) (n m : ℕ) (args1 args2 : List Value) (stack : Stack) (w1 w2 : World) (t : T) → Alike K f w1 w2 → Each (AlikeValue f) args1 args2 → w2.counters.instructions ≤ n → Holds t w1.cursors →
+    AlikeRan ok Holds K (start_at f w1 w2) f n (call hook (eval_with hook script p n) script p m args1 stack w1 t) (call nowhere (eval_with nowhere script p n) script p m args2 stack w2 tt)
+
+-- evaluates every method where it is called, and notes whether all answers so far were of classes in `K`
+unfoldable pub watch : (ℕ → Bool) → Script → Program → Hook Bool
+watch K script p = record {
+  entry = λ m args stack w t. Here t;
+  spent = λ m t. t;
+  called = λ m t. asks_within K script p m && t;
+  ended = λ m e w t. t;
+}
+
+-- Renaming and locality: from alike registers in worlds that are alike, where only answers of classes in `K` are taken, evaluating leads to alike ends in worlds that are
+-- alike again; the added events are equal, and the objects outside the map and the cursors outside `K` are as they were.
+abbrev pub RenamingAndLocality : (ℕ → Bool) → Script → Program → Type 0
+RenamingAndLocality K script p = HookIsFaithful (λ (b : Bool). b) (λ (b : Bool) (cursors : List ℕ). Unit {0}) K (watch K script p) script p
+
+-- The same where all cursors agree: then nothing is asked of the answers that are taken.
+abbrev pub WholeRenaming : Script → Program → Type 0
+WholeRenaming script p = HookIsFaithful (λ (t : Unit {0}). true) (λ (t : Unit {0}) (cursors : List ℕ). Unit {0}) (λ class. true) nowhere script p
