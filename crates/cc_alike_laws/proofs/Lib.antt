@@ -1,0 +1,4 @@
+mod Lists
+mod Maps
+mod Worlds
+mod Runs
