@@ -2,3 +2,4 @@ mod Lists
 mod Maps
 mod Worlds
 mod Runs
+mod Pieces

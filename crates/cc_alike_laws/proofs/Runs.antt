@@ -58,7 +58,6 @@ new_alike {f} p class = by (class == _)
 -- ---- the record of a call shows no object's number
 
 class_same : {f : Map} (p : Program) {o1 o2 : Object} → AlikeObject f o1 o2 → class_of_object p o1 ≡ class_of_object p o2
-unfolding class_of_object
 class_same p outs = refl
 class_same p (instances vs) = refl
 class_same p (arrays vs) = refl
