@@ -3,3 +3,5 @@ mod Maps
 mod Worlds
 mod Runs
 mod Pieces
+mod Rows
+mod Insns

@@ -162,6 +162,15 @@ some_same {f} {p} {A} {x1} {x2} k1 k2 e k = subst (λ x. AlikeAct p f (on_some x
     cases None = done stuck
     cases (Some a) = k a
 
+-- the same thing is found on both sides, and where it stands is known
+pub some_found : {f : Map} {p : Program} {A : Type 0} {x : Option A} (k1 k2 : A → Act) → ((a : A) → x ≡ Some a → AlikeAct p f (k1 a) (k2 a)) → AlikeAct p f (on_some x k1) (on_some x k2)
+unfolding on_some
+some_found {f} {p} {A} {x} k1 k2 k = cases x refl
+  where
+    cases : (y : Option A) → x ≡ y → AlikeAct p f (on_some y k1) (on_some y k2)
+    cases None e = done stuck
+    cases (Some a) e = k a e
+
 pub cond_alike : {f : Map} {p : Program} {a1 a2 b1 b2 : Act} (c : Bool) → AlikeAct p f a1 a2 → AlikeAct p f b1 b2 → AlikeAct p f (cond c a1 b1) (cond c a2 b2)
 cond_alike true a b = a
 cond_alike false a b = b
