@@ -5,3 +5,5 @@ mod Runs
 mod Pieces
 mod Rows
 mod Insns
+mod Quiet
+mod Kept
