@@ -98,7 +98,7 @@ module _ {T : Type 0} (ok : T → Bool) (Holds : T → List ℕ → Type 0) (K :
     after_was f (Stops c) w t = λ o. o
     after_was f Stuck w t = λ o. o
 
-    after_acts_was : (f : Frame) (r : Reached) (t : T) → Was t (after_acts hook go script p f r t)
+    pub after_acts_was : (f : Frame) (r : Reached) (t : T) → Was t (after_acts hook go script p f r t)
     unfolding after_acts
     after_acts_was f r t = was_before t (told_calls hook r.called t) _ (λ o. (calls_were r.called t o).1) (after_was f r.outcome r.world (told_calls hook r.called t))
 
@@ -138,11 +138,15 @@ module _ {T : Type 0} (ok : T → Bool) (Holds : T → List ℕ → Type 0) (K :
     opened_if_was fail fail_was further further_was true k w t = fail_was _ _ t
     opened_if_was fail fail_was further further_was false k w t = further_was k.todo _ t
 
+    pub opened_was : (fail : Fails T) → FailWas fail → (further : List ℕ → World → T → Ran T) → ((cs : List ℕ) → FurtherWas (further cs)) → (k : Climbed) (w : World) (t : T) → Was t (opened script p fail further k w t)
+    unfolding opened
+    opened_was fail fail_was further further_was k w t = opened_if_was fail fail_was further further_was k.refused k w t
+
     turn_was : (f : Frame) (left : ℕ) (w : World) (t : T) → Was t (turn hook go script p f left w t)
-    unfolding turn opened
+    unfolding turn
     turn_was f zero w t = λ o. o
     turn_was f (suc k) w t = was_before t (hook.spent f.method t) _ (keeps.spent f.method t)
-        (opened_if_was (failing go p f) (failing_was f) (started hook go script p f) (started_was f) (starting p f w).refused (starting p f w) (with_instructions w k) (hook.spent f.method t))
+        (opened_was (failing go p f) (failing_was f) (started hook go script p f) (started_was f) (starting p f w) (with_instructions w k) (hook.spent f.method t))
 
   pub eval_was : (n : ℕ) → GoWas (eval_with hook script p n)
   unfolding eval_with

@@ -7,3 +7,5 @@ mod Rows
 mod Insns
 mod Quiet
 mod Kept
+mod Raised
+mod Evals

@@ -11,6 +11,7 @@ use Rattle.cc_meaning.specs.declared.value.Object.{Object}
 use Rattle.cc_meaning.specs.declared.value.Value.{Value}
 use Rattle.cc_meaning_world.specs.World.{World, Counters}
 use Rattle.cc_meaning_world.specs.Changes.{with_instructions, with_words, with_statuses, with_status, with_object, with_object_at, with_static, noted_made, with_literal, with_constant, with_event, cursor_at, with_answer}
+use Rattle.cc_meaning_exec.specs.Starts.{all_failed, with_failed}
 use Rattle.cc_meaning_alike.specs.Maps.{Map, link, In, there, Extends}
 use Rattle.cc_meaning_alike.specs.Worlds.{Each, nil, each, AlikeMade, AlikeValue, AlikeObject, BothObjects, two, AlikeHeaps, Start, Since, Idle, Pair, start_at}
 use Rattle.cc_alike_laws.proofs.Lists.{get_before, get_end, get_set_same, get_set_other, get_set_both}
@@ -58,6 +59,10 @@ module _ {K : ℕ → Bool} {s : Start} {f : Map} {w1 w2 : World} (p : Pair K s 
   pub status_kept : (class status : ℕ) → Pair K s f (with_status w1 class status) (with_status w2 class status)
   unfolding with_status with_statuses
   status_kept class status = counters_kept _ _ (ap (λ (c : Counters). record c { statuses = slice_set c.statuses class status }) p.alike.counters)
+
+  pub failed_kept : (cs : List ℕ) → Pair K s f (with_failed cs w1) (with_failed cs w2)
+  unfolding with_failed with_statuses
+  failed_kept cs = counters_kept _ _ (ap (λ (c : Counters). record c { statuses = all_failed cs c.statuses }) p.alike.counters)
 
   -- the same event on both sides
   since_with : (e : Event) → Since s f w1.objects w2.objects (w1.events ++ e ∷ []) (w2.events ++ e ∷ [])

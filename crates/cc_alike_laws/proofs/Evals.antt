@@ -1,0 +1,315 @@
+-- Evaluation from alike frames in worlds that are alike.
+use Rattle.std.proofs.Common.{◌≡◌, ℕ, zero, suc, ◌≤◌, ◌-◌, Bool, true, false, List, [], ◌∷◌, length, Option, Some, None, refl, sym, subst, arith, slice_get}
+use Rattle.std.specs.Prelude.{IsTrue}
+use Rattle.cc_meaning.specs.declared.program.Program.{Program}
+use Rattle.cc_meaning.specs.declared.script.Script.{Script}
+use Rattle.cc_meaning.specs.declared.value.Cell.TheVariants as cell
+use Rattle.cc_meaning.specs.declared.value.Value.{Value}
+use Rattle.cc_meaning_world.specs.World.{World, Stack, Locals, Counters}
+use Rattle.cc_meaning_world.specs.Changes.{with_instructions, with_status, with_statuses}
+use Rattle.cc_meaning_world.specs.Acts.{Outcome, run_act}
+use Rattle.cc_meaning_exec.specs.Instructions.{insn_of_method, act_at}
+use Rattle.cc_meaning_exec.specs.Frames.{cells_of, registers_of, locals_for, frame_for, room_for}
+use Rattle.cc_meaning_exec.specs.Exceptions.{End, Raised, catches_in, handler_of, handler_for, overflow}
+use Rattle.cc_meaning_exec.specs.Instructions.{code_of}
+use Rattle.cc_meaning_exec.specs.Starts.{ready, class_needed, Climbed, climb_from, starting, put_statics, initialiser_of, start_failed, start_refused}
+use Rattle.cc_meaning_exec.specs.Eval.{Ran, ran, Reply, Here, Answer, Hook, Go, caught, thrown, failing, resume, told, as_ran, body_if, body, replied, call, after, told_calls, after_acts, acts_at, Fails, initialised, initialise, valued, valued_in, starts, started, opened_if, opened, turn, eval_with}
+use Rattle.cc_meaning_exec.specs.WorkedPrograms.{nowhere}
+use Rattle.cc_meaning_alike.specs.Maps.{Map, In, Extends}
+use Rattle.cc_meaning_alike.specs.Worlds.{Each, nil, each, neither, both, linked, AlikeValue, ints, longs, refs, AlikeCell, unsets, highs, values, AlikeLocals, Alike, Start, Pair, start_at}
+use Rattle.cc_meaning_alike.specs.Acts.{AlikeOutcome, nexts, enters, returns, throws, stops, stuck}
+use Rattle.cc_meaning_alike.specs.Ends.{AlikeEnd, both_return, both_throw, both_stop, both_jam, EndedAlike, frame_at, AlikeRan, FitsReply, Keeps, HookFits}
+use Rattle.cc_meaning_alike.specs.Laws.{HookIsFaithful, CallIsFaithful}
+use Rattle.cc_alike_laws.proofs.Maps.{each_append, each_same, same_length, grow_locals}
+use Rattle.cc_alike_laws.proofs.Worlds.{instructions_kept, status_kept, statuses_kept, idle_join, since_join, since_none}
+use Rattle.cc_alike_laws.proofs.Runs.{run_alike}
+use Rattle.cc_alike_laws.proofs.Insns.{act_at_alike}
+use Rattle.cc_alike_laws.proofs.Quiet.{run_left}
+use Rattle.cc_alike_laws.proofs.Raised.{handler_same, climbed_same, RaisedAlike, overflow_raised, statics_raised, start_failed_raised, refused_raised}
+use Rattle.cc_alike_laws.proofs.Kept.{Was, GoWas, FailWas, FurtherWas, told_was, calls_were, failing_was, resume_was, body_was, after_was, after_acts_was, initialised_was, starts_was, started_was, opened_was, eval_was}
+
+-- ---- frames
+
+cells_alike : {f : Map} {vs1 vs2 : List Value} → Each (AlikeValue f) vs1 vs2 → Each (AlikeCell f) (cells_of vs1) (cells_of vs2)
+unfolding cells_of
+cells_alike nil = nil
+cells_alike (each ints vs) = each (values ints) (cells_alike vs)
+cells_alike (each longs vs) = each (values longs) (each highs (cells_alike vs))
+cells_alike (each (refs r) vs) = each (values (refs r)) (cells_alike vs)
+
+locals_alike : {f : Map} {vs1 vs2 : List Value} (registers : ℕ) → Each (AlikeValue f) vs1 vs2 → AlikeLocals f (locals_for registers vs1) (locals_for registers vs2)
+unfolding locals_for
+locals_alike {f} {vs1} {vs2} registers vs =
+    let cs = cells_alike vs in
+    record { cells = rw (same_length cs) (each_append (each_same (registers - length (cells_of vs2)) cell.Unset unsets) cs); pending = neither }
+
+-- ---- from one start to another
+
+ended_join : {K : ℕ → Bool} {s : Start} {f : Map} {n : ℕ} {e1 e2 : End} {w1 w2 u1 u2 : World} → Pair K s f w1 w2 → EndedAlike K (start_at f w1 w2) f n e1 e2 u1 u2 → EndedAlike K s f n e1 e2 u1 u2
+ended_join p r = record {
+  map = r.map;
+  extends = r.extends;
+  ends = r.ends;
+  pair = record { alike = r.pair.alike; idle = idle_join _ _ _ p.idle r.pair.idle; since = since_join p.since r.pair.since };
+  within = r.within;
+}
+
+fits_join : {T U : Type 0} (ok : T → Bool) (Holds : T → List ℕ → Type 0) (K : ℕ → Bool) (s : Start) (f : Map) (n : ℕ) (w1 w2 : World) (cursors : List ℕ) (x : Reply T) (r : Ran U) → Pair K s f w1 w2 →
+    FitsReply ok Holds K (start_at f w1 w2) f n cursors x r → FitsReply ok Holds K s f n cursors x r
+fits_join ok Holds K s f n w1 w2 cursors (Here t) r p h = h
+fits_join ok Holds K s f n w1 w2 cursors (Answer e w t) (ran e2 u t2) p h = λ o. let r = h o in (ended_join p r.0, r.1)
+
+module _ {T : Type 0} (ok : T → Bool) (Holds : T → List ℕ → Type 0) (K : ℕ → Bool) (script : Script) (p : Program) (hook : Hook T) (keeps : Keeps ok Holds K hook script p) (s : Start) where
+  -- worlds that are alike, and what the hook keeps holds of the first one's cursors
+  abbrev pub Good : Map → T → World → World → Type 0
+  Good f t w1 w2 = Pair K s f w1 w2 × Holds t w1.cursors
+
+  abbrev pub Rel : Map → ℕ → Ran T → Ran (Unit {0}) → Type 0
+  Rel f n r1 r2 = AlikeRan ok Holds K s f n r1 r2
+
+  -- an end under a larger map goes on alike
+  abbrev pub FailsAlike : Map → ℕ → Fails T → Fails (Unit {0}) → Type 0
+  FailsAlike f n fail1 fail2 = (g : Map) (w1 w2 : World) (t : T) (e1 e2 : End) → Extends f g → AlikeEnd g e1 e2 → Good g t w1 w2 → w2.counters.instructions ≤ n → Rel g n (fail1 e1 w1 t) (fail2 e2 w2 tt)
+
+  -- what follows goes on alike under each larger map
+  abbrev pub FurtherAlike : Map → ℕ → (World → T → Ran T) → (World → Unit {0} → Ran (Unit {0})) → Type 0
+  FurtherAlike f n further1 further2 = (g : Map) (w1 w2 : World) (t : T) → Extends f g → Good g t w1 w2 → w2.counters.instructions ≤ n → Rel g n (further1 w1 t) (further2 w2 tt)
+
+  -- from a larger map on, with fewer instructions
+  later : (f g : Map) (n k : ℕ) (r1 : Ran T) (r2 : Ran (Unit {0})) → Extends f g → n ≤ k → Rel g n r1 r2 → Rel f k r1 r2
+  later f g n k (ran e1 w1 t1) (ran e2 w2 t2) e le h = λ o. let x = h o in let r = x.0 in let within = r.within in
+      (record { map = r.map; extends = λ a b i. r.extends a b (e a b i); ends = r.ends; pair = r.pair; within = omega arith }, x.1)
+
+  -- what is noted is right at the end only if it was right before
+  given_right : (f : Map) (n : ℕ) (t : T) (r1 : Ran T) (r2 : Ran (Unit {0})) → Was ok Holds K script p hook keeps t r1 → (IsTrue (ok t) → Rel f n r1 r2) → Rel f n r1 r2
+  given_right f n t (ran e1 w1 t1) (ran e2 w2 t2) was h = λ o. h (was o) o
+
+  ends_now : (f : Map) (n : ℕ) (e1 e2 : End) (w1 w2 : World) (t : T) → AlikeEnd f e1 e2 → Good f t w1 w2 → w2.counters.instructions ≤ n → Rel f n (ran e1 w1 t) (ran e2 w2 tt)
+  ends_now f n e1 e2 w1 w2 t e q le = λ o. (record { map = f; extends = λ a b i. i; ends = e; pair = q.0; within = le }, q.1)
+
+  -- what the hook keeps holds where the cursors stayed
+  stayed : (f : Map) (n : ℕ) (t : T) (cs : List ℕ) (r1 r2 : Raised) → (h : RaisedAlike K s f n cs r1 r2) → Holds t cs → Good h.map t r1.world r2.world
+  stayed f n t cs r1 r2 h hd = (h.pair, subst (Holds t) (sym h.stays) hd)
+
+  raised_alike : (f : Map) (n : ℕ) (t : T) (cs : List ℕ) (r1 r2 : Raised) → RaisedAlike K s f n cs r1 r2 → Holds t cs → Rel f n (as_ran r1 t) (as_ran r2 tt)
+  unfolding as_ran
+  raised_alike f n t cs r1 r2 h hd = later f h.map n n (ran r1.end r1.world t) (ran r2.end r2.world tt) h.extends (omega arith) (ends_now h.map n _ _ _ _ t h.ends (stayed f n t cs r1 r2 h hd) h.within)
+
+  fails_by : (f : Map) (n : ℕ) (t : T) (cs : List ℕ) (r1 r2 : Raised) (fail1 : Fails T) (fail2 : Fails (Unit {0})) → FailsAlike f n fail1 fail2 → RaisedAlike K s f n cs r1 r2 → Holds t cs →
+      Rel f n (fail1 r1.end r1.world t) (fail2 r2.end r2.world tt)
+  fails_by f n t cs r1 r2 fail1 fail2 fails h hd = later f h.map n n _ _ h.extends (omega arith) (fails h.map _ _ t _ _ h.extends h.ends (stayed f n t cs r1 r2 h hd) h.within)
+
+  -- a method's end is told
+  told_alike : (f : Map) (n m : ℕ) (r1 : Ran T) (r2 : Ran (Unit {0})) → Rel f n r1 r2 → Rel f n (told hook m r1) (told nowhere m r2)
+  unfolding told nowhere
+  told_alike f n m (ran e1 w1 t1) (ran e2 w2 t2) h =
+      given_right f n t1 _ _ (told_was ok Holds K script p hook keeps t1 m (ran e1 w1 t1) (λ o. o))
+      (λ o. let x = h o in let r = x.0 in later f r.map n n _ _ r.extends (omega arith) (cases r.map (r.pair, x.1) r.within r.ends))
+    where
+      cases : (g : Map) → Good g t1 w1 w2 → w2.counters.instructions ≤ n → {e1 e2 : End} → AlikeEnd g e1 e2 → Rel g n (told hook m (ran e1 w1 t1)) (told nowhere m (ran e2 w2 tt))
+      cases g q le (both_return v) = λ o. (record { map = g; extends = λ a b i. i; ends = both_return v; pair = q.0; within = le }, keeps.holds_ended m _ w1 t1 o q.1)
+      cases g q le (both_throw i) = λ o. (record { map = g; extends = λ a b i. i; ends = both_throw i; pair = q.0; within = le }, keeps.holds_ended m _ w1 t1 o q.1)
+      cases g q le both_stop = ends_now g n _ _ w1 w2 t1 both_stop q le
+      cases g q le both_jam = ends_now g n _ _ w1 w2 t1 both_jam q le
+
+  module _ (n : ℕ) (go1 : Go T) (go2 : Go (Unit {0})) (was : GoWas ok Holds K script p hook keeps go1)
+      (ih : (f : Map) (w1 w2 : World) (m pc : ℕ) (stack : Stack) (l1 l2 : Locals) (t : T) → Good f t w1 w2 → AlikeLocals f l1 l2 → w2.counters.instructions ≤ n → Rel f n (go1 (frame_at m pc stack l1) w1 t) (go2 (frame_at m pc stack l2) w2 tt))
+      (fits : (f : Map) (w1 w2 : World) (m : ℕ) (args1 args2 : List Value) (stack : Stack) (t : T) → Good f t w1 w2 → Each (AlikeValue f) args1 args2 → w2.counters.instructions ≤ n → FitsReply ok Holds K s f n w1.cursors (hook.entry m args1 stack w1 t) (call nowhere go2 script p m args2 stack w2 tt)) where
+    -- ---- handlers
+
+    caught_alike : (f : Map) (w1 w2 : World) (m pc : ℕ) (stack : Stack) (l1 l2 : Locals) (a b : ℕ) (x : Option ℕ) (t : T) → Good f t w1 w2 → AlikeLocals f l1 l2 → In f a b → w2.counters.instructions ≤ n →
+        Rel f n (caught go1 (frame_at m pc stack l1) a x w1 t) (caught go2 (frame_at m pc stack l2) b x w2 tt)
+    unfolding caught
+    caught_alike f w1 w2 m pc stack l1 l2 a b None t q l i le = ends_now f n _ _ w1 w2 t (both_throw i) q le
+    caught_alike f w1 w2 m pc stack l1 l2 a b (Some target) t q l i le = ih f w1 w2 m target stack _ _ t q (record { cells = l.cells; pending = both (refs (linked i)) }) le
+
+    thrown_alike : (f : Map) (w1 w2 : World) (m pc : ℕ) (stack : Stack) (l1 l2 : Locals) (a b : ℕ) (t : T) → Good f t w1 w2 → AlikeLocals f l1 l2 → In f a b → w2.counters.instructions ≤ n →
+        Rel f n (thrown go1 p (frame_at m pc stack l1) a w1 t) (thrown go2 p (frame_at m pc stack l2) b w2 tt)
+    unfolding thrown handler_for
+    thrown_alike f w1 w2 m pc stack l1 l2 a b t q l i le =
+        subst (λ x. Rel f n (caught go1 (frame_at m pc stack l1) a (handler_of p (catches_in (code_of p m) pc) (slice_get w1.objects a)) w1 t) (caught go2 (frame_at m pc stack l2) b x w2 tt))
+        (handler_same p (catches_in (code_of p m) pc) (q.0.alike.heap.objects a b i))
+        (caught_alike f w1 w2 m pc stack l1 l2 a b (handler_of p (catches_in (code_of p m) pc) (slice_get w1.objects a)) t q l i le)
+
+    failing_by : (f : Map) (m pc : ℕ) (stack : Stack) (l1 l2 : Locals) → AlikeLocals f l1 l2 → (g : Map) (w1 w2 : World) (t : T) {e1 e2 : End} → Extends f g → AlikeEnd g e1 e2 → Good g t w1 w2 → w2.counters.instructions ≤ n →
+        Rel g n (failing go1 p (frame_at m pc stack l1) e1 w1 t) (failing go2 p (frame_at m pc stack l2) e2 w2 tt)
+    unfolding failing
+    failing_by f m pc stack l1 l2 l g w1 w2 t e (both_return v) q le = ends_now g n _ _ w1 w2 t both_jam q le
+    failing_by f m pc stack l1 l2 l g w1 w2 t e (both_throw i) q le = thrown_alike g w1 w2 m pc stack l1 l2 _ _ t q (grow_locals e l) i le
+    failing_by f m pc stack l1 l2 l g w1 w2 t e both_stop q le = ends_now g n _ _ w1 w2 t both_stop q le
+    failing_by f m pc stack l1 l2 l g w1 w2 t e both_jam q le = ends_now g n _ _ w1 w2 t both_jam q le
+
+    failing_alike : (f : Map) (m pc : ℕ) (stack : Stack) (l1 l2 : Locals) → AlikeLocals f l1 l2 → FailsAlike f n (failing go1 p (frame_at m pc stack l1)) (failing go2 p (frame_at m pc stack l2))
+    failing_alike f m pc stack l1 l2 l g w1 w2 t e1 e2 e d q le = failing_by f m pc stack l1 l2 l g w1 w2 t e d q le
+
+    -- ---- calls
+
+    resume_alike : (f : Map) (m pc next : ℕ) (stack : Stack) (l1 l2 : Locals) (r1 : Ran T) (r2 : Ran (Unit {0})) → AlikeLocals f l1 l2 → Rel f n r1 r2 →
+        Rel f n (resume go1 p (frame_at m pc stack l1) next r1) (resume go2 p (frame_at m pc stack l2) next r2)
+    unfolding resume
+    resume_alike f m pc next stack l1 l2 (ran e1 w1 t1) (ran e2 w2 t2) l h =
+        given_right f n t1 _ _ (resume_was ok Holds K script p hook keeps go1 was t1 (frame_at m pc stack l1) next (ran e1 w1 t1) (λ o. o))
+        (λ o. let x = h o in let r = x.0 in later f r.map n n _ _ r.extends (omega arith) (cases r.map (r.pair, x.1) (grow_locals r.extends l) r.within r.ends))
+      where
+        cases : (g : Map) → Good g t1 w1 w2 → AlikeLocals g l1 l2 → w2.counters.instructions ≤ n → {e1 e2 : End} → AlikeEnd g e1 e2 →
+            Rel g n (resume go1 p (frame_at m pc stack l1) next (ran e1 w1 t1)) (resume go2 p (frame_at m pc stack l2) next (ran e2 w2 tt))
+        cases g q k le (both_return v) = ih g w1 w2 m next stack _ _ t1 q (record { cells = k.cells; pending = v }) le
+        cases g q k le (both_throw i) = thrown_alike g w1 w2 m pc stack l1 l2 _ _ t1 q k i le
+        cases g q k le both_stop = ends_now g n _ _ w1 w2 t1 both_stop q le
+        cases g q k le both_jam = ends_now g n _ _ w1 w2 t1 both_jam q le
+
+    body_if_alike : (f : Map) (w1 w2 : World) (room : Bool) (m : ℕ) (args1 args2 : List Value) (stack : Stack) (t : T) → Good f t w1 w2 → Each (AlikeValue f) args1 args2 → w2.counters.instructions ≤ n →
+        Rel f n (body_if room go1 script p m args1 stack w1 t) (body_if room go2 script p m args2 stack w2 tt)
+    unfolding body_if frame_for
+    body_if_alike f w1 w2 true m args1 args2 stack t q vs le = ih f w1 w2 m 0 _ _ _ t q (locals_alike (registers_of p m) vs) le
+    body_if_alike f w1 w2 false m args1 args2 stack t q vs le = raised_alike f n t w1.cursors _ _ (overflow_raised K script p s f n w1 w2 q.0 le) q.1
+
+    body_alike : (f : Map) (w1 w2 : World) (m : ℕ) (args1 args2 : List Value) (stack : Stack) (t : T) → Good f t w1 w2 → Each (AlikeValue f) args1 args2 → w2.counters.instructions ≤ n →
+        Rel f n (body go1 script p m args1 stack w1 t) (body go2 script p m args2 stack w2 tt)
+    unfolding body
+    body_alike f w1 w2 m args1 args2 stack t q vs le = body_if_alike f w1 w2 (room_for p m stack) m args1 args2 stack t q vs le
+
+    replied_alike : (f : Map) (w1 w2 : World) (m : ℕ) (args1 args2 : List Value) (stack : Stack) (x : Reply T) → Pair K s f w1 w2 → Each (AlikeValue f) args1 args2 → w2.counters.instructions ≤ n →
+        FitsReply ok Holds K s f n w1.cursors x (call nowhere go2 script p m args2 stack w2 tt) → Rel f n (replied hook go1 script p m args1 stack w1 x) (call nowhere go2 script p m args2 stack w2 tt)
+    unfolding call replied nowhere
+    replied_alike f w1 w2 m args1 args2 stack (Here t) q vs le h =
+        given_right f n t _ _ (told_was ok Holds K script p hook keeps t m _ (body_was ok Holds K script p hook keeps go1 was m args1 stack w1 t))
+        (λ o. told_alike f n m _ _ (body_alike f w1 w2 m args1 args2 stack t (q, h o) vs le))
+    replied_alike f w1 w2 m args1 args2 stack (Answer e w t) q vs le h = h
+
+    pub call_alike : (f : Map) (w1 w2 : World) (m : ℕ) (args1 args2 : List Value) (stack : Stack) (t : T) → Good f t w1 w2 → Each (AlikeValue f) args1 args2 → w2.counters.instructions ≤ n →
+        Rel f n (call hook go1 script p m args1 stack w1 t) (call nowhere go2 script p m args2 stack w2 tt)
+    unfolding call
+    call_alike f w1 w2 m args1 args2 stack t q vs le = replied_alike f w1 w2 m args1 args2 stack (hook.entry m args1 stack w1 t) q.0 vs le (fits f w1 w2 m args1 args2 stack t q vs le)
+
+    -- ---- an instruction
+
+    after_alike : (f : Map) (w1 w2 : World) (m pc : ℕ) (stack : Stack) (l1 l2 : Locals) {o1 o2 : Outcome} (t : T) → Good f t w1 w2 → AlikeLocals f l1 l2 → AlikeOutcome f o1 o2 → w2.counters.instructions ≤ n →
+        Rel f n (after hook go1 script p (frame_at m pc stack l1) o1 w1 t) (after nowhere go2 script p (frame_at m pc stack l2) o2 w2 tt)
+    unfolding after
+    after_alike f w1 w2 m pc stack l1 l2 t q l (nexts {pc = pc'} l') le = ih f w1 w2 m pc' stack _ _ t q l' le
+    after_alike f w1 w2 m pc stack l1 l2 t q l (enters {m = callee} {next = next} vs) le = resume_alike f m pc next stack l1 l2 _ _ l (call_alike f w1 w2 callee _ _ stack t q vs le)
+    after_alike f w1 w2 m pc stack l1 l2 t q l (returns v) le = ends_now f n _ _ w1 w2 t (both_return v) q le
+    after_alike f w1 w2 m pc stack l1 l2 t q l (throws i) le = thrown_alike f w1 w2 m pc stack l1 l2 _ _ t q l i le
+    after_alike f w1 w2 m pc stack l1 l2 t q l stops le = ends_now f n _ _ w1 w2 t both_stop q le
+    after_alike f w1 w2 m pc stack l1 l2 t q l stuck le = ends_now f n _ _ w1 w2 t both_jam q le
+
+    -- one instruction's act, and what follows it
+    acts_alike : (f : Map) (m pc : ℕ) (stack : Stack) (l1 l2 : Locals) → AlikeLocals f l1 l2 →
+        FurtherAlike f n (λ w t. after_acts hook go1 script p (frame_at m pc stack l1) (acts_at script p (frame_at m pc stack l1) w) t) (λ w t. after_acts nowhere go2 script p (frame_at m pc stack l2) (acts_at script p (frame_at m pc stack l2) w) t)
+    unfolding after_acts acts_at
+    acts_alike f m pc stack l1 l2 l g w1 w2 t e q le =
+        let k = grow_locals e l in
+        let r1 = run_act script p (act_at p m pc l1) w1 in
+        let t' = told_calls hook r1.called t in
+        given_right g n t' _ _ (after_was ok Holds K script p hook keeps go1 was (frame_at m pc stack l1) r1.outcome r1.world t')
+        (λ o. let r = run_alike K script p s (act_at_alike p q.0.alike.heap.one k m pc) w1 w2 q.0 (calls_were ok Holds K script p hook keeps r1.called t o).0 in
+        let left = run_left w2.counters.instructions script p (act_at p m pc l2) w2 refl in
+        later g r.map n n _ _ r.extends (omega arith) (after_alike r.map _ _ m pc stack l1 l2 t' (r.pair, keeps.holds_acted (frame_at m pc stack l1) w1 t o q.1) (grow_locals r.extends k) r.outcomes (omega arith)))
+
+    -- ---- the start of classes
+
+    module _ (stack : Stack) (fail1 : Fails T) (fail2 : Fails (Unit {0})) (fail_was : FailWas ok Holds K script p hook keeps fail1) where
+      initialised_alike : (f : Map) (c : ℕ) (cs : List ℕ) (further1 : World → T → Ran T) (further2 : World → Unit {0} → Ran (Unit {0})) (r1 : Ran T) (r2 : Ran (Unit {0})) → FailsAlike f n fail1 fail2 →
+          FurtherWas ok Holds K script p hook keeps further1 → FurtherAlike f n further1 further2 → Rel f n r1 r2 → Rel f n (initialised script p fail1 c cs further1 r1) (initialised script p fail2 c cs further2 r2)
+      unfolding initialised with_status with_statuses
+      initialised_alike f c cs further1 further2 (ran e1 w1 t1) (ran e2 w2 t2) fails fwas k h =
+          given_right f n t1 _ _ (initialised_was ok Holds K script p hook keeps go1 was stack fail1 fail_was t1 c cs further1 fwas (ran e1 w1 t1) (λ o. o))
+          (λ o. let x = h o in let r = x.0 in later f r.map n n _ _ r.extends (omega arith) (cases r.map r.extends (r.pair, x.1) r.within r.ends))
+        where
+          cases : (g : Map) → Extends f g → Good g t1 w1 w2 → w2.counters.instructions ≤ n → {e1 e2 : End} → AlikeEnd g e1 e2 → Rel g n (initialised script p fail1 c cs further1 (ran e1 w1 t1)) (initialised script p fail2 c cs further2 (ran e2 w2 tt))
+          cases g e q le (both_return v) = k g _ _ t1 e (status_kept q.0 c ready, q.1) le
+          cases g e q le (both_throw {a = a} {b = b} i) = fails_by g n t1 w1.cursors _ _ fail1 fail2 (λ h v1 v2 t c1 c2 e'. fails h v1 v2 t c1 c2 (λ a b i. e' a b (e a b i))) (start_failed_raised K script p s g n c cs a b w1 w2 i q.0 le) q.1
+          cases g e q le both_stop = ends_now g n _ _ w1 w2 t1 both_stop q le
+          cases g e q le both_jam = ends_now g n _ _ w1 w2 t1 both_jam q le
+
+      initialise_alike : (f : Map) (w1 w2 : World) (c : ℕ) (cs : List ℕ) (further1 : World → T → Ran T) (further2 : World → Unit {0} → Ran (Unit {0})) (x : Option ℕ) (t : T) → FailsAlike f n fail1 fail2 →
+          FurtherWas ok Holds K script p hook keeps further1 → FurtherAlike f n further1 further2 → Good f t w1 w2 → w2.counters.instructions ≤ n →
+          Rel f n (initialise hook go1 script p stack fail1 c cs further1 x w1 t) (initialise nowhere go2 script p stack fail2 c cs further2 x w2 tt)
+      unfolding initialise with_status with_statuses
+      initialise_alike f w1 w2 c cs further1 further2 None t fails fwas k q le = k f _ _ t (λ a b i. i) (status_kept q.0 c ready, q.1) le
+      initialise_alike f w1 w2 c cs further1 further2 (Some m) t fails fwas k q le = initialised_alike f c cs further1 further2 _ _ fails fwas k (call_alike f w1 w2 m [] [] stack t q nil le)
+
+      valued_alike : (f : Map) (w1 w2 : World) (c : ℕ) (cs : List ℕ) (further1 : World → T → Ran T) (further2 : World → Unit {0} → Ran (Unit {0})) {e1 e2 : End} (t : T) → FailsAlike f n fail1 fail2 →
+          FurtherWas ok Holds K script p hook keeps further1 → FurtherAlike f n further1 further2 → AlikeEnd f e1 e2 → Good f t w1 w2 → w2.counters.instructions ≤ n →
+          Rel f n (valued hook go1 script p stack fail1 c cs further1 e1 w1 t) (valued nowhere go2 script p stack fail2 c cs further2 e2 w2 tt)
+      unfolding valued
+      valued_alike f w1 w2 c cs further1 further2 t fails fwas k (both_return v) q le = initialise_alike f w1 w2 c cs further1 further2 (initialiser_of p c) t fails fwas k q le
+      valued_alike f w1 w2 c cs further1 further2 t fails fwas k (both_throw i) q le = ends_now f n _ _ w1 w2 t both_jam q le
+      valued_alike f w1 w2 c cs further1 further2 t fails fwas k both_stop q le = ends_now f n _ _ w1 w2 t both_stop q le
+      valued_alike f w1 w2 c cs further1 further2 t fails fwas k both_jam q le = ends_now f n _ _ w1 w2 t both_jam q le
+
+      pub starts_alike : (f : Map) (w1 w2 : World) (further1 : World → T → Ran T) (further2 : World → Unit {0} → Ran (Unit {0})) (cs : List ℕ) (t : T) → FailsAlike f n fail1 fail2 →
+          FurtherWas ok Holds K script p hook keeps further1 → FurtherAlike f n further1 further2 → Good f t w1 w2 → w2.counters.instructions ≤ n →
+          Rel f n (starts hook go1 script p stack fail1 further1 cs w1 t) (starts nowhere go2 script p stack fail2 further2 cs w2 tt)
+      unfolding starts valued_in
+      starts_alike f w1 w2 further1 further2 [] t fails fwas k q le = k f w1 w2 t (λ a b i. i) q le
+      starts_alike f w1 w2 further1 further2 (c ∷ cs) t fails fwas k q le =
+          let r = statics_raised K script p s f n c w1 w2 q.0 le in
+          later f r.map n n _ _ r.extends (omega arith)
+          (valued_alike r.map _ _ c cs _ _ t (λ h v1 v2 t' c1 c2 e. fails h v1 v2 t' c1 c2 (λ a b i. e a b (r.extends a b i)))
+          (λ w' t'. starts_was ok Holds K script p hook keeps go1 was stack fail1 fail_was further1 fwas cs w' t')
+          (λ h v1 v2 t' e q' le'. starts_alike h v1 v2 further1 further2 cs t' (λ h' u1 u2 t'' c1 c2 e'. fails h' u1 u2 t'' c1 c2 (λ a b i. e' a b (e a b (r.extends a b i)))) fwas
+              (λ h' u1 u2 t'' e'. k h' u1 u2 t'' (λ a b i. e' a b (e a b (r.extends a b i)))) q' le')
+          r.ends (stayed f n t w1.cursors _ _ r q.1) r.within)
+
+    started_alike : (f : Map) (m pc : ℕ) (stack : Stack) (l1 l2 : Locals) (cs : List ℕ) → AlikeLocals f l1 l2 →
+        FurtherAlike f n (started hook go1 script p (frame_at m pc stack l1) cs) (started nowhere go2 script p (frame_at m pc stack l2) cs)
+    unfolding started
+    started_alike f m pc stack l1 l2 cs l g w1 w2 t e q le =
+        starts_alike stack _ _ (failing_was ok Holds K script p hook keeps go1 was (frame_at m pc stack l1)) g w1 w2 _ _ cs t (failing_alike g m pc stack l1 l2 (grow_locals e l))
+        (λ w' t'. after_acts_was ok Holds K script p hook keeps go1 was (frame_at m pc stack l1) (acts_at script p (frame_at m pc stack l1) w') t') (acts_alike g m pc stack l1 l2 (grow_locals e l)) q le
+
+    opened_if_alike : (f : Map) (w1 w2 : World) (fail1 : Fails T) (fail2 : Fails (Unit {0})) (further1 : List ℕ → World → T → Ran T) (further2 : List ℕ → World → Unit {0} → Ran (Unit {0})) (b : Bool) (k : Climbed) (t : T) →
+        FailsAlike f n fail1 fail2 → ((cs : List ℕ) → FurtherAlike f n (further1 cs) (further2 cs)) → Good f t w1 w2 → w2.counters.instructions ≤ n →
+        Rel f n (opened_if b script p fail1 further1 k w1 t) (opened_if b script p fail2 further2 k w2 tt)
+    unfolding opened_if with_statuses
+    opened_if_alike f w1 w2 fail1 fail2 further1 further2 true k t fails further q le = fails_by f n t w1.cursors _ _ fail1 fail2 fails (refused_raised K script p s f n k.todo _ _ (statuses_kept q.0 k.statuses) le) q.1
+    opened_if_alike f w1 w2 fail1 fail2 further1 further2 false k t fails further q le = further k.todo f _ _ t (λ a b i. i) (statuses_kept q.0 k.statuses, q.1) le
+
+    pub opened_alike : (f : Map) (w1 w2 : World) (fail1 : Fails T) (fail2 : Fails (Unit {0})) (further1 : List ℕ → World → T → Ran T) (further2 : List ℕ → World → Unit {0} → Ran (Unit {0})) (k1 k2 : Climbed) (t : T) → k1 ≡ k2 →
+        FailsAlike f n fail1 fail2 → ((cs : List ℕ) → FurtherAlike f n (further1 cs) (further2 cs)) → Good f t w1 w2 → w2.counters.instructions ≤ n →
+        Rel f n (opened script p fail1 further1 k1 w1 t) (opened script p fail2 further2 k2 w2 tt)
+    unfolding opened
+    opened_alike f w1 w2 fail1 fail2 further1 further2 k1 k2 t e fails further q le =
+        subst (λ k. Rel f n (opened_if k1.refused script p fail1 further1 k1 w1 t) (opened_if k.refused script p fail2 further2 k w2 tt)) e (opened_if_alike f w1 w2 fail1 fail2 further1 further2 k1.refused k1 t fails further q le)
+
+    -- ---- a turn
+
+    turn_alike : (f : Map) (w1 w2 : World) (m pc : ℕ) (stack : Stack) (l1 l2 : Locals) (left : ℕ) (t : T) → Good f t w1 w2 → AlikeLocals f l1 l2 → w2.counters.instructions ≡ left → left ≤ suc n →
+        Rel f (suc n) (turn hook go1 script p (frame_at m pc stack l1) left w1 t) (turn nowhere go2 script p (frame_at m pc stack l2) left w2 tt)
+    unfolding turn with_instructions starting nowhere
+    turn_alike f w1 w2 m pc stack l1 l2 zero t q l e le = ends_now f (suc n) _ _ w1 w2 t both_stop q (omega arith)
+    turn_alike f w1 w2 m pc stack l1 l2 (suc k) t q l e le =
+        let f1 = frame_at m pc stack l1 in
+        let f2 = frame_at m pc stack l2 in
+        let t' = hook.spent m t in
+        given_right f (suc n) t' _ _ (opened_was ok Holds K script p hook keeps go1 was (failing go1 p f1) (failing_was ok Holds K script p hook keeps go1 was f1) (started hook go1 script p f1) (started_was ok Holds K script p hook keeps go1 was f1) (starting p f1 w1) (with_instructions w1 k) t')
+        (λ o. later f f n (suc n) _ _ (λ a b i. i) (omega arith)
+        (opened_alike f (with_instructions w1 k) (with_instructions w2 k) (failing go1 p f1) (failing go2 p f2) (started hook go1 script p f1) (started nowhere go2 script p f2) (starting p f1 w1) (starting p f2 w2) t'
+        (climbed_same p (class_needed p (insn_of_method p m pc)) w1 w2 q.0.alike.counters) (failing_alike f m pc stack l1 l2 l) (λ cs. started_alike f m pc stack l1 l2 cs l)
+        (instructions_kept q.0 k, keeps.holds_spent m w1.cursors t o q.1) (omega arith)))
+
+  eval_alike : HookFits ok Holds K hook script p → (n : ℕ) (f : Map) (w1 w2 : World) (m pc : ℕ) (stack : Stack) (l1 l2 : Locals) (t : T) → Good f t w1 w2 → AlikeLocals f l1 l2 → w2.counters.instructions ≤ n →
+      Rel f n (eval_with hook script p n (frame_at m pc stack l1) w1 t) (eval_with nowhere script p n (frame_at m pc stack l2) w2 tt)
+  unfolding eval_with
+  eval_alike fits zero f w1 w2 m pc stack l1 l2 t q l le = ends_now f zero _ _ w1 w2 t both_stop q le
+  eval_alike fits (suc n) f w1 w2 m pc stack l1 l2 t q l le =
+      subst (λ c. Rel f (suc n) (turn hook (eval_with hook script p n) script p (frame_at m pc stack l1) c.instructions w1 t) (turn nowhere (eval_with nowhere script p n) script p (frame_at m pc stack l2) w2.counters.instructions w2 tt)) (sym q.0.alike.counters)
+      (turn_alike n (eval_with hook script p n) (eval_with nowhere script p n) (eval_was ok Holds K script p hook keeps n) (eval_alike fits n)
+      (λ g u1 u2 callee args1 args2 stack' t' q' vs le'. fits_join ok Holds K s g n u1 u2 u1.cursors _ _ q'.0 (fits g u1 u2 callee args1 args2 stack' n t' q'.0.alike vs le' q'.1))
+      f w1 w2 m pc stack l1 l2 w2.counters.instructions t q l refl le)
+
+-- two worlds that are alike are a pair where a run begins
+pub begun_pair : {K : ℕ → Bool} {f : Map} {w1 w2 : World} → Alike K f w1 w2 → Pair K (start_at f w1 w2) f w1 w2
+begun_pair {f = f} {w1 = w1} {w2 = w2} a = record { alike = a; idle = record { idle_first = λ c k. refl; idle_second = λ c k. refl }; since = since_none f w1 w2 }
+
+pub faithful : {T : Type 0} (ok : T → Bool) (Holds : T → List ℕ → Type 0) (K : ℕ → Bool) (hook : Hook T) (script : Script) (p : Program) → Keeps ok Holds K hook script p → HookFits ok Holds K hook script p → HookIsFaithful ok Holds K hook script p
+faithful ok Holds K hook script p keeps fits f n m pc stack l1 l2 w1 w2 t a l le hd = eval_alike ok Holds K script p hook keeps (start_at f w1 w2) fits n f w1 w2 m pc stack l1 l2 t (begun_pair a, hd) l le
+
+-- the same from the call of a method on
+pub call_faithful : {T : Type 0} (ok : T → Bool) (Holds : T → List ℕ → Type 0) (K : ℕ → Bool) (hook : Hook T) (script : Script) (p : Program) → Keeps ok Holds K hook script p → HookFits ok Holds K hook script p → CallIsFaithful ok Holds K hook script p
+call_faithful ok Holds K hook script p keeps fits f n m args1 args2 stack w1 w2 t a vs le hd =
+    call_alike ok Holds K script p hook keeps (start_at f w1 w2) n (eval_with hook script p n) (eval_with nowhere script p n) (eval_was ok Holds K script p hook keeps n) (eval_alike ok Holds K script p hook keeps (start_at f w1 w2) fits n)
+    (λ g u1 u2 callee a1 a2 stack' t' q' us le'. fits_join ok Holds K (start_at f w1 w2) g n u1 u2 u1.cursors _ _ q'.0 (fits g u1 u2 callee a1 a2 stack' n t' q'.0.alike us le' q'.1))
+    f w1 w2 m args1 args2 stack t (begun_pair a, hd) vs le
