@@ -9,3 +9,4 @@ mod Quiet
 mod Kept
 mod Raised
 mod Evals
+mod Laws

@@ -1,2 +1,45 @@
 //! The laws of renaming and locality: what a run does depends on no object's number, and on no object that it doesn't reach.
 #![tactic(auto)]
+
+ghost use Rattle.std.specs.Prelude.{ℕ, Bool, true, List, IsTrue};
+ghost use Rattle.cc_meaning.specs.declared.program.Program.{Program};
+ghost use Rattle.cc_meaning.specs.declared.script.Script.{Script};
+ghost use Rattle.cc_meaning_exec.specs.Eval.{Hook};
+ghost use Rattle.cc_meaning_alike.specs.Ends.{Keeps, HookFits};
+ghost use Rattle.cc_meaning_alike.specs.Laws.{RunsAreAlike, InstructionsAreAlike, BuiltInCallsAreAlike, OpeningIsAlike, HookIsFaithful, RenamingAndLocality, WholeRenaming};
+
+/// Alike acts, done in worlds that are alike, lead to alike outcomes in worlds that are alike.
+pub fn acts_keep_worlds_alike()
+    ensures { RunsAreAlike }
+{}
+
+/// At each address of each method, alike registers give alike acts.
+pub fn instructions_are_alike()
+    ensures { InstructionsAreAlike }
+{}
+
+/// Alike arguments of each built-in method give alike acts.
+pub fn built_in_calls_are_alike()
+    ensures { BuiltInCallsAreAlike }
+{}
+
+/// The opening world is alike itself.
+pub fn opening_worlds_are_alike()
+    ensures { OpeningIsAlike }
+{}
+
+/// Evaluating from worlds that are alike, with answers of classes whose cursors agree, gives alike ends in worlds that are alike.
+pub fn renaming_and_locality()
+    ensures { (K : ℕ → Bool) (script : Script) (p : Program) → RenamingAndLocality K script p }
+{}
+
+/// Where all cursors agree, evaluating from worlds that are alike gives alike ends.
+pub fn whole_renaming()
+    ensures { (script : Script) (p : Program) → WholeRenaming script p }
+{}
+
+/// A hook whose answers are right changes nothing.
+#[tactic(auto, using(crate::proofs::Evals::faithful))]
+pub fn right_answers_change_nothing<T>()
+    ensures { (ok : T → Bool) (holds : T → List ℕ → Bool) (K : ℕ → Bool) (hook : Hook T) (script : Script) (p : Program) → Keeps ok (λ t cursors. IsTrue (holds t cursors)) K hook script p → HookFits ok (λ t cursors. IsTrue (holds t cursors)) K hook script p → HookIsFaithful ok (λ t cursors. IsTrue (holds t cursors)) K hook script p }
+{}

@@ -1,0 +1,118 @@
+-- The laws from their lemmas.
+use Rattle.std.proofs.Common.{◌≡◌, ℕ, Bool, true, false, List, [], ◌∷◌, Option, Some, None, refl, sym, ◌∙◌}
+use Rattle.std.specs.Prelude.{IsTrue, ◌&&◌, ◌||◌, not, map, cond}
+use Rattle.cc_meaning.specs.declared.program.Field.{Field}
+use Rattle.cc_meaning.specs.declared.program.Program.{Program}
+use Rattle.cc_meaning.specs.declared.script.Script.{Script}
+use Rattle.cc_meaning.specs.declared.value.Value.{Value}
+use Rattle.cc_meaning.specs.declared.value.Value.TheVariants as value
+use Rattle.cc_meaning.specs.Kinds.{kind_of}
+use Rattle.cc_meaning_world.specs.Opening.{out_object, opening_static, opening_world}
+use Rattle.cc_meaning_world.specs.Scripts.{is_stateful}
+use Rattle.cc_meaning_exec.specs.WorkedPrograms.{nowhere}
+use Rattle.cc_meaning_alike.specs.Maps.{empty, link, In, here, there}
+use Rattle.cc_meaning_alike.specs.Worlds.{Each, nil, each, linked, AlikeValue, refs, two, outs}
+use Rattle.cc_meaning_alike.specs.Acts.{asks_within}
+use Rattle.cc_meaning_alike.specs.Ends.{Keeps, HookFits}
+use Rattle.cc_meaning_alike.specs.Laws.{RunsAreAlike, InstructionsAreAlike, BuiltInCallsAreAlike, OpeningIsAlike, watch, RenamingAndLocality, WholeRenaming}
+use Rattle.cc_alike_laws.proofs.Runs.{run_alike, zero_alike}
+use Rattle.cc_alike_laws.proofs.Insns.{act_at_alike}
+use Rattle.cc_alike_laws.proofs.Rows.{call_by_itself_alike}
+use Rattle.cc_alike_laws.proofs.Evals.{faithful}
+
+pub runs_are_alike : RunsAreAlike
+runs_are_alike K script p s f a1 a2 w1 w2 r q = run_alike K script p s r w1 w2 q
+
+pub instructions_are_alike : InstructionsAreAlike
+instructions_are_alike p f m pc l1 l2 u l = act_at_alike p u l m pc
+
+pub built_in_calls_are_alike : BuiltInCallsAreAlike
+built_in_calls_are_alike p f m args1 args2 u vs = call_by_itself_alike p m u vs
+
+-- ---- no answers of a hook
+
+and_first : (a b : Bool) → IsTrue (a && b) → IsTrue a
+and_first true b h = refl
+and_first false b h = h
+
+and_second : (a b : Bool) → IsTrue (a && b) → IsTrue b
+and_second true b h = h
+and_second false b h = absurd (cc)
+
+pub watch_keeps : (K : ℕ → Bool) (script : Script) (p : Program) → Keeps (λ (b : Bool). b) (λ (b : Bool) (cursors : List ℕ). Unit {0}) K (watch K script p) script p
+unfolding watch
+watch_keeps K script p = record {
+  entry = λ m args stack w t o. o;
+  spent = λ m t o. o;
+  called = λ m t o. (and_first (asks_within K script p m) t o, and_second (asks_within K script p m) t o);
+  ended = λ m e w t o. o;
+  holds_spent = λ m cursors t o h. tt;
+  holds_acted = λ f w t o h. tt;
+  holds_ended = λ m e w t o h. tt;
+}
+
+pub watch_fits : (K : ℕ → Bool) (script : Script) (p : Program) → HookFits (λ (b : Bool). b) (λ (b : Bool) (cursors : List ℕ). Unit {0}) K (watch K script p) script p
+unfolding watch
+watch_fits K script p f w1 w2 m args1 args2 stack n t a vs le h = λ o. tt
+
+pub renaming_and_locality : (K : ℕ → Bool) (script : Script) (p : Program) → RenamingAndLocality K script p
+renaming_and_locality K script p = faithful (λ (b : Bool). b) (λ (b : Bool) (cursors : List ℕ). Unit {0}) K (watch K script p) script p (watch_keeps K script p) (watch_fits K script p)
+
+-- where all cursors agree, any answer may be taken
+pub any_within : (script : Script) (p : Program) (m : ℕ) → IsTrue (asks_within (λ class. true) script p m)
+unfolding asks_within
+any_within script p m = by (is_stateful script p m)
+  where
+    by : (b : Bool) → IsTrue (not b || true)
+    by true = refl
+    by false = refl
+
+whole_keeps : (script : Script) (p : Program) → Keeps (λ (t : Unit {0}). true) (λ (t : Unit {0}) (cursors : List ℕ). Unit {0}) (λ class. true) nowhere script p
+unfolding nowhere
+whole_keeps script p = record {
+  entry = λ m args stack w t o. o;
+  spent = λ m t o. o;
+  called = λ m t o. (any_within script p m, o);
+  ended = λ m e w t o. o;
+  holds_spent = λ m cursors t o h. tt;
+  holds_acted = λ f w t o h. tt;
+  holds_ended = λ m e w t o h. tt;
+}
+
+whole_fits : (script : Script) (p : Program) → HookFits (λ (t : Unit {0}). true) (λ (t : Unit {0}) (cursors : List ℕ). Unit {0}) (λ class. true) nowhere script p
+unfolding nowhere
+whole_fits script p f w1 w2 m args1 args2 stack n t a vs le h = λ o. tt
+
+pub whole_renaming : (script : Script) (p : Program) → WholeRenaming script p
+whole_renaming script p = faithful (λ (t : Unit {0}). true) (λ (t : Unit {0}) (cursors : List ℕ). Unit {0}) (λ class. true) nowhere script p (whole_keeps script p) (whole_fits script p)
+
+-- ---- the opening world
+
+one_link : {a b : ℕ} → In (link out_object out_object empty) a b → (a ≡ out_object) × (b ≡ out_object)
+one_link here = (refl, refl)
+one_link (there i) = elim i [ ]
+
+static_by : (b : Bool) (z : Value) → AlikeValue (link out_object out_object empty) z z →
+    AlikeValue (link out_object out_object empty) (cond b (value.Obj (Some out_object)) z) (cond b (value.Obj (Some out_object)) z)
+static_by true z r = refs (linked here)
+static_by false z r = r
+
+statics_alike : (p : Program) (fs : List Field) → Each (AlikeValue (link out_object out_object empty)) (map (opening_static p) fs) (map (opening_static p) fs)
+unfolding opening_static
+statics_alike p [] = nil
+statics_alike p (x ∷ fs) = each (static_by _ _ (zero_alike (kind_of x.ty))) (statics_alike p fs)
+
+pub opening_alike : OpeningIsAlike
+unfolding opening_world
+opening_alike K p limits = record {
+  heap = record {
+    objects = λ a b i. let e = one_link i in rw (e.0, e.1) (two outs);
+    one = record { one_right = λ a b c i j. (one_link i).1 ∙ sym (one_link j).1; one_left = λ a b c i j. (one_link i).0 ∙ sym (one_link j).0 };
+    out = here;
+  };
+  statics = statics_alike p p.fields;
+  literals = nil;
+  constants = nil;
+  counters = refl;
+  cursors = λ c k. refl;
+}
