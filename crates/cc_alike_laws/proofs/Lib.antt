@@ -10,3 +10,4 @@ mod Kept
 mod Raised
 mod Evals
 mod Laws
+mod Glue

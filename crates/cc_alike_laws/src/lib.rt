@@ -6,6 +6,7 @@ ghost use Rattle.cc_meaning.specs.declared.program.Program.{Program};
 ghost use Rattle.cc_meaning.specs.declared.script.Script.{Script};
 ghost use Rattle.cc_meaning_exec.specs.Eval.{Hook};
 ghost use Rattle.cc_meaning_alike.specs.Ends.{Keeps, HookFits};
+ghost use Rattle.cc_meaning_alike.specs.Migration.{HookMigrates};
 ghost use Rattle.cc_meaning_alike.specs.Laws.{RunsAreAlike, InstructionsAreAlike, BuiltInCallsAreAlike, OpeningIsAlike, HookIsFaithful, RenamingAndLocality, WholeRenaming};
 
 /// Alike acts, done in worlds that are alike, lead to alike outcomes in worlds that are alike.
@@ -42,4 +43,9 @@ pub fn whole_renaming()
 #[tactic(auto, using(crate::proofs::Evals::faithful))]
 pub fn right_answers_change_nothing<T>()
     ensures { (ok : T → Bool) (holds : T → List ℕ → Bool) (K : ℕ → Bool) (hook : Hook T) (script : Script) (p : Program) → Keeps ok (λ t cursors. IsTrue (holds t cursors)) K hook script p → HookFits ok (λ t cursors. IsTrue (holds t cursors)) K hook script p → HookIsFaithful ok (λ t cursors. IsTrue (holds t cursors)) K hook script p }
+{}
+
+/// A hook that captures a call, has it evaluated in another world with answers of classes in `K` alone, whose cursors agree, and merges the outcome, changes nothing.
+pub fn migrated_calls_change_nothing<T>()
+    ensures { (ok : T → Bool) (holds : T → List ℕ → Bool) (K : ℕ → Bool) (hook : Hook T) (script : Script) (p : Program) → Keeps ok (λ t cursors. IsTrue (holds t cursors)) (λ class. true) hook script p → HookMigrates ok (λ t cursors. IsTrue (holds t cursors)) K hook script p → HookIsFaithful ok (λ t cursors. IsTrue (holds t cursors)) (λ class. true) hook script p }
 {}
