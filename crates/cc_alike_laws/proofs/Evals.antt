@@ -9,24 +9,25 @@ use Rattle.cc_meaning_world.specs.World.{World, Stack, Locals, Counters}
 use Rattle.cc_meaning_world.specs.Changes.{with_instructions, with_status, with_statuses}
 use Rattle.cc_meaning_world.specs.Acts.{Outcome, run_act}
 use Rattle.cc_meaning_exec.specs.Instructions.{insn_of_method, act_at}
-use Rattle.cc_meaning_exec.specs.Frames.{cells_of, registers_of, locals_for, frame_for, room_for}
+use Rattle.cc_meaning_exec.specs.Frames.{cells_of, registers_of, locals_for, frame_for, room_for, no_frames}
 use Rattle.cc_meaning_exec.specs.Exceptions.{End, Raised, catches_in, handler_of, handler_for, overflow}
 use Rattle.cc_meaning_exec.specs.Instructions.{code_of}
-use Rattle.cc_meaning_exec.specs.Starts.{ready, class_needed, Climbed, climb_from, starting, put_statics, initialiser_of, start_failed, start_refused}
+use Rattle.cc_meaning_exec.specs.Starts.{ready, class_needed, class_of_main, Climbed, climb_from, starting, put_statics, initialiser_of, start_failed, start_refused}
 use Rattle.cc_meaning_exec.specs.Eval.{Ran, ran, Reply, Here, Answer, Hook, Go, caught, thrown, failing, resume, told, as_ran, body_if, body, replied, call, after, told_calls, after_acts, acts_at, Fails, initialised, initialise, valued, valued_in, starts, started, opened_if, opened, turn, eval_with}
+use Rattle.cc_meaning_exec.specs.Runs.{launched, run_main}
 use Rattle.cc_meaning_exec.specs.WorkedPrograms.{nowhere}
 use Rattle.cc_meaning_alike.specs.Maps.{Map, In, Extends}
 use Rattle.cc_meaning_alike.specs.Worlds.{Each, nil, each, neither, both, linked, AlikeValue, ints, longs, refs, AlikeCell, unsets, highs, values, AlikeLocals, Alike, Start, Pair, start_at}
 use Rattle.cc_meaning_alike.specs.Acts.{AlikeOutcome, nexts, enters, returns, throws, stops, stuck}
 use Rattle.cc_meaning_alike.specs.Ends.{AlikeEnd, both_return, both_throw, both_stop, both_jam, EndedAlike, frame_at, AlikeRan, FitsReply, Keeps, HookFits}
-use Rattle.cc_meaning_alike.specs.Laws.{HookIsFaithful, CallIsFaithful}
-use Rattle.cc_alike_laws.proofs.Maps.{each_append, each_same, same_length, grow_locals}
+use Rattle.cc_meaning_alike.specs.Laws.{HookIsFaithful, CallIsFaithful, MainIsFaithful}
+use Rattle.cc_alike_laws.proofs.Maps.{each_append, each_same, same_length, grow_locals, grow_values}
 use Rattle.cc_alike_laws.proofs.Worlds.{instructions_kept, status_kept, statuses_kept, idle_join, since_join, since_none}
 use Rattle.cc_alike_laws.proofs.Runs.{run_alike}
 use Rattle.cc_alike_laws.proofs.Insns.{act_at_alike}
 use Rattle.cc_alike_laws.proofs.Quiet.{run_left}
 use Rattle.cc_alike_laws.proofs.Raised.{handler_same, climbed_same, RaisedAlike, overflow_raised, statics_raised, start_failed_raised, refused_raised}
-use Rattle.cc_alike_laws.proofs.Kept.{Was, GoWas, FailWas, FurtherWas, told_was, calls_were, failing_was, resume_was, body_was, after_was, after_acts_was, initialised_was, starts_was, started_was, opened_was, eval_was}
+use Rattle.cc_alike_laws.proofs.Kept.{Was, GoWas, FailWas, FurtherWas, told_was, calls_were, failing_was, resume_was, body_was, call_was, after_was, after_acts_was, initialised_was, starts_was, started_was, opened_was, eval_was}
 
 -- ---- frames
 
@@ -290,15 +291,46 @@ module _ {T : Type 0} (ok : T → Bool) (Holds : T → List ℕ → Type 0) (K :
         (climbed_same p (class_needed p (insn_of_method p m pc)) w1 w2 q.0.alike.counters) (failing_alike f m pc stack l1 l2 l) (λ cs. started_alike f m pc stack l1 l2 cs l)
         (instructions_kept q.0 k, keeps.holds_spent m w1.cursors t o q.1) (omega arith)))
 
+  -- answers that are right from each pair of worlds are so from each later one
+  answers_fit : HookFits ok Holds K hook script p → (n : ℕ) (f : Map) (w1 w2 : World) (m : ℕ) (args1 args2 : List Value) (stack : Stack) (t : T) → Good f t w1 w2 → Each (AlikeValue f) args1 args2 → w2.counters.instructions ≤ n →
+      FitsReply ok Holds K s f n w1.cursors (hook.entry m args1 stack w1 t) (call nowhere (eval_with nowhere script p n) script p m args2 stack w2 tt)
+  answers_fit fits n f w1 w2 m args1 args2 stack t q vs le = fits_join ok Holds K s f n w1 w2 w1.cursors _ _ q.0 (fits f w1 w2 m args1 args2 stack n t q.0.alike vs le q.1)
+
   eval_alike : HookFits ok Holds K hook script p → (n : ℕ) (f : Map) (w1 w2 : World) (m pc : ℕ) (stack : Stack) (l1 l2 : Locals) (t : T) → Good f t w1 w2 → AlikeLocals f l1 l2 → w2.counters.instructions ≤ n →
       Rel f n (eval_with hook script p n (frame_at m pc stack l1) w1 t) (eval_with nowhere script p n (frame_at m pc stack l2) w2 tt)
   unfolding eval_with
   eval_alike fits zero f w1 w2 m pc stack l1 l2 t q l le = ends_now f zero _ _ w1 w2 t both_stop q le
   eval_alike fits (suc n) f w1 w2 m pc stack l1 l2 t q l le =
       subst (λ c. Rel f (suc n) (turn hook (eval_with hook script p n) script p (frame_at m pc stack l1) c.instructions w1 t) (turn nowhere (eval_with nowhere script p n) script p (frame_at m pc stack l2) w2.counters.instructions w2 tt)) (sym q.0.alike.counters)
-      (turn_alike n (eval_with hook script p n) (eval_with nowhere script p n) (eval_was ok Holds K script p hook keeps n) (eval_alike fits n)
-      (λ g u1 u2 callee args1 args2 stack' t' q' vs le'. fits_join ok Holds K s g n u1 u2 u1.cursors _ _ q'.0 (fits g u1 u2 callee args1 args2 stack' n t' q'.0.alike vs le' q'.1))
-      f w1 w2 m pc stack l1 l2 w2.counters.instructions t q l refl le)
+      (turn_alike n (eval_with hook script p n) (eval_with nowhere script p n) (eval_was ok Holds K script p hook keeps n) (eval_alike fits n) (answers_fit fits n) f w1 w2 m pc stack l1 l2 w2.counters.instructions t q l refl le)
+
+  -- ---- calls and whole runs
+
+  module _ (fits : HookFits ok Holds K hook script p) (n : ℕ) where
+    pub calls_alike : (f : Map) (w1 w2 : World) (m : ℕ) (args1 args2 : List Value) (stack : Stack) (t : T) → Good f t w1 w2 → Each (AlikeValue f) args1 args2 → w2.counters.instructions ≤ n →
+        Rel f n (call hook (eval_with hook script p n) script p m args1 stack w1 t) (call nowhere (eval_with nowhere script p n) script p m args2 stack w2 tt)
+    calls_alike f w1 w2 m args1 args2 stack t q vs le =
+        call_alike n (eval_with hook script p n) (eval_with nowhere script p n) (eval_was ok Holds K script p hook keeps n) (eval_alike fits n) (answers_fit fits n) f w1 w2 m args1 args2 stack t q vs le
+
+    -- an exception or a stop before `main` is the run's end
+    run_ends : (f : Map) → FailsAlike f n ran ran
+    run_ends f g w1 w2 t e1 e2 e d q le = ends_now g n e1 e2 w1 w2 t d q le
+
+    launched_alike : (f : Map) (m : ℕ) (args1 args2 : List Value) (cs : List ℕ) → Each (AlikeValue f) args1 args2 →
+        FurtherAlike f n (launched hook (eval_with hook script p n) script p m args1 cs) (launched nowhere (eval_with nowhere script p n) script p m args2 cs)
+    unfolding launched
+    launched_alike f m args1 args2 cs vs g w1 w2 t e q le =
+        starts_alike n (eval_with hook script p n) (eval_with nowhere script p n) (eval_was ok Holds K script p hook keeps n) (eval_alike fits n) (answers_fit fits n) no_frames ran ran (λ e w t o. o) g w1 w2 _ _ cs t (run_ends g)
+        (λ w' t'. call_was ok Holds K script p hook keeps (eval_with hook script p n) (eval_was ok Holds K script p hook keeps n) m args1 no_frames w' t')
+        (λ h v1 v2 t' e' q' le'. calls_alike h v1 v2 m args1 args2 no_frames t' q' (grow_values (λ a b i. e' a b (e a b i)) vs) le') q le
+
+    pub main_alike : (f : Map) (w1 w2 : World) (args1 args2 : List Value) (t : T) → Good f t w1 w2 → Each (AlikeValue f) args1 args2 → w2.counters.instructions ≤ n →
+        Rel f n (run_main hook script p n args1 w1 t) (run_main nowhere script p n args2 w2 tt)
+    unfolding run_main
+    main_alike f w1 w2 args1 args2 t q vs le =
+        opened_alike n (eval_with hook script p n) (eval_with nowhere script p n) (eval_was ok Holds K script p hook keeps n) (eval_alike fits n) (answers_fit fits n) f w1 w2 ran ran
+        (launched hook (eval_with hook script p n) script p p.main args1) (launched nowhere (eval_with nowhere script p n) script p p.main args2) (climb_from p (class_of_main p) w1) (climb_from p (class_of_main p) w2) t
+        (climbed_same p (class_of_main p) w1 w2 q.0.alike.counters) (run_ends f) (λ cs. launched_alike f p.main args1 args2 cs vs) q le
 
 -- two worlds that are alike are a pair where a run begins
 pub begun_pair : {K : ℕ → Bool} {f : Map} {w1 w2 : World} → Alike K f w1 w2 → Pair K (start_at f w1 w2) f w1 w2
@@ -309,7 +341,8 @@ faithful ok Holds K hook script p keeps fits f n m pc stack l1 l2 w1 w2 t a l le
 
 -- the same from the call of a method on
 pub call_faithful : {T : Type 0} (ok : T → Bool) (Holds : T → List ℕ → Type 0) (K : ℕ → Bool) (hook : Hook T) (script : Script) (p : Program) → Keeps ok Holds K hook script p → HookFits ok Holds K hook script p → CallIsFaithful ok Holds K hook script p
-call_faithful ok Holds K hook script p keeps fits f n m args1 args2 stack w1 w2 t a vs le hd =
-    call_alike ok Holds K script p hook keeps (start_at f w1 w2) n (eval_with hook script p n) (eval_with nowhere script p n) (eval_was ok Holds K script p hook keeps n) (eval_alike ok Holds K script p hook keeps (start_at f w1 w2) fits n)
-    (λ g u1 u2 callee a1 a2 stack' t' q' us le'. fits_join ok Holds K (start_at f w1 w2) g n u1 u2 u1.cursors _ _ q'.0 (fits g u1 u2 callee a1 a2 stack' n t' q'.0.alike us le' q'.1))
-    f w1 w2 m args1 args2 stack t (begun_pair a, hd) vs le
+call_faithful ok Holds K hook script p keeps fits f n m args1 args2 stack w1 w2 t a vs le hd = calls_alike ok Holds K script p hook keeps (start_at f w1 w2) fits n f w1 w2 m args1 args2 stack t (begun_pair a, hd) vs le
+
+-- and from the start of the class of `main` on
+pub main_faithful : {T : Type 0} (ok : T → Bool) (Holds : T → List ℕ → Type 0) (K : ℕ → Bool) (hook : Hook T) (script : Script) (p : Program) → Keeps ok Holds K hook script p → HookFits ok Holds K hook script p → MainIsFaithful ok Holds K hook script p
+main_faithful ok Holds K hook script p keeps fits f n args1 args2 w1 w2 t a vs le hd = main_alike ok Holds K script p hook keeps (start_at f w1 w2) fits n f w1 w2 args1 args2 t (begun_pair a, hd) vs le

@@ -1,5 +1,5 @@
 -- The laws of renaming and locality, and of faithful hooks: statements, which a crate above proves.
-use Rattle.std.specs.Prelude.{ℕ, ◌≤◌, ◌&&◌, Bool, true, List}
+use Rattle.std.specs.Prelude.{◌≡◌, ℕ, ◌≤◌, ◌&&◌, Bool, true, List, IsTrue}
 use Rattle.cc_meaning.specs.declared.program.Program.{Program}
 use Rattle.cc_meaning.specs.declared.report.Limits.{Limits}
 use Rattle.cc_meaning.specs.declared.script.Script.{Script}
@@ -10,6 +10,7 @@ use Rattle.cc_meaning_world.specs.Acts.{Act, run_act}
 use Rattle.cc_meaning_rows.specs.Calls.{act_of_call}
 use Rattle.cc_meaning_exec.specs.Instructions.{act_at}
 use Rattle.cc_meaning_exec.specs.Eval.{Here, Hook, call, eval_with}
+use Rattle.cc_meaning_exec.specs.Runs.{run_main, run_with, report_of, local, kept_of}
 use Rattle.cc_meaning_exec.specs.WorkedPrograms.{nowhere}
 use Rattle.cc_meaning_alike.specs.Maps.{Map, empty, link, OneToOne}
 use Rattle.cc_meaning_alike.specs.Worlds.{Each, AlikeValue, AlikeLocals, Alike, Start, start_at, Pair}
@@ -48,6 +49,17 @@ abbrev pub CallIsFaithful : {T : Type 0} → (T → Bool) → (T → List ℕ �
 CallIsFaithful {T} ok Holds K hook script p =
     (f : Map) (n m : ℕ) (args1 args2 : List Value) (stack : Stack) (w1 w2 : World) (t : T) → Alike K f w1 w2 → Each (AlikeValue f) args1 args2 → w2.counters.instructions ≤ n → Holds t w1.cursors →
     AlikeRan ok Holds K (start_at f w1 w2) f n (call hook (eval_with hook script p n) script p m args1 stack w1 t) (call nowhere (eval_with nowhere script p n) script p m args2 stack w2 tt)
+
+-- the same from the start of the class of `main` on
+abbrev pub MainIsFaithful : {T : Type 0} → (T → Bool) → (T → List ℕ → Type 0) → (ℕ → Bool) → Hook T → Script → Program → Type 0
+MainIsFaithful {T} ok Holds K hook script p =
+    (f : Map) (n : ℕ) (args1 args2 : List Value) (w1 w2 : World) (t : T) → Alike K f w1 w2 → Each (AlikeValue f) args1 args2 → w2.counters.instructions ≤ n → Holds t w1.cursors →
+    AlikeRan ok Holds K (start_at f w1 w2) f n (run_main hook script p n args1 w1 t) (run_main nowhere script p n args2 w2 tt)
+
+-- A whole run with a hook gives the report of the run on one heap, where what the hook has noted at its end is right.
+abbrev pub ReportIsLocal : {T : Type 0} → (T → Bool) → (T → List ℕ → Type 0) → Hook T → Script → Program → Type 0
+ReportIsLocal {T} ok Holds hook script p = (texts : List (List ℕ)) (limits : Limits) (t : T) → Holds t (opening_world p limits).cursors → IsTrue (ok (kept_of (run_with hook script p texts limits t))) →
+    report_of limits (run_with hook script p texts limits t) ≡ local script p texts limits
 
 -- evaluates every method where it is called, and notes whether all answers so far were of classes in `K`
 unfoldable pub watch : (ℕ → Bool) → Script → Program → Hook Bool
