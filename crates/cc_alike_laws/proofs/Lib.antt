@@ -11,3 +11,4 @@ mod Raised
 mod Evals
 mod Laws
 mod Glue
+mod Reports

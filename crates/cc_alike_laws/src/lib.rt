@@ -7,7 +7,7 @@ ghost use Rattle.cc_meaning.specs.declared.script.Script.{Script};
 ghost use Rattle.cc_meaning_exec.specs.Eval.{Hook};
 ghost use Rattle.cc_meaning_alike.specs.Ends.{Keeps, HookFits};
 ghost use Rattle.cc_meaning_alike.specs.Migration.{HookMigrates};
-ghost use Rattle.cc_meaning_alike.specs.Laws.{RunsAreAlike, InstructionsAreAlike, BuiltInCallsAreAlike, OpeningIsAlike, HookIsFaithful, RenamingAndLocality, WholeRenaming};
+ghost use Rattle.cc_meaning_alike.specs.Laws.{RunsAreAlike, InstructionsAreAlike, BuiltInCallsAreAlike, OpeningIsAlike, HookIsFaithful, CallIsFaithful, MainIsFaithful, ReportIsLocal, RenamingAndLocality, WholeRenaming};
 
 /// Alike acts, done in worlds that are alike, lead to alike outcomes in worlds that are alike.
 pub fn acts_keep_worlds_alike()
@@ -45,7 +45,30 @@ pub fn right_answers_change_nothing<T>()
     ensures { (ok : T → Bool) (holds : T → List ℕ → Bool) (K : ℕ → Bool) (hook : Hook T) (script : Script) (p : Program) → Keeps ok (λ t cursors. IsTrue (holds t cursors)) K hook script p → HookFits ok (λ t cursors. IsTrue (holds t cursors)) K hook script p → HookIsFaithful ok (λ t cursors. IsTrue (holds t cursors)) K hook script p }
 {}
 
+/// The same from the call of a method on.
+#[tactic(auto, using(crate::proofs::Evals::call_faithful))]
+pub fn right_answers_change_no_call<T>()
+    ensures { (ok : T → Bool) (holds : T → List ℕ → Bool) (K : ℕ → Bool) (hook : Hook T) (script : Script) (p : Program) → Keeps ok (λ t cursors. IsTrue (holds t cursors)) K hook script p → HookFits ok (λ t cursors. IsTrue (holds t cursors)) K hook script p → CallIsFaithful ok (λ t cursors. IsTrue (holds t cursors)) K hook script p }
+{}
+
+/// The same from the start of the class of `main` on.
+#[tactic(auto, using(crate::proofs::Evals::main_faithful))]
+pub fn right_answers_change_no_main<T>()
+    ensures { (ok : T → Bool) (holds : T → List ℕ → Bool) (K : ℕ → Bool) (hook : Hook T) (script : Script) (p : Program) → Keeps ok (λ t cursors. IsTrue (holds t cursors)) K hook script p → HookFits ok (λ t cursors. IsTrue (holds t cursors)) K hook script p → MainIsFaithful ok (λ t cursors. IsTrue (holds t cursors)) K hook script p }
+{}
+
+/// The report of a whole run with such a hook is that of the run on one heap.
+#[tactic(auto, using(crate::proofs::Reports::report_is_local))]
+pub fn right_answers_change_no_report<T>()
+    ensures { (ok : T → Bool) (holds : T → List ℕ → Bool) (K : ℕ → Bool) (hook : Hook T) (script : Script) (p : Program) → Keeps ok (λ t cursors. IsTrue (holds t cursors)) K hook script p → HookFits ok (λ t cursors. IsTrue (holds t cursors)) K hook script p → ReportIsLocal ok (λ t cursors. IsTrue (holds t cursors)) hook script p }
+{}
+
 /// A hook that captures a call, has it evaluated in another world with answers of classes in `K` alone, whose cursors agree, and merges the outcome, changes nothing.
 pub fn migrated_calls_change_nothing<T>()
     ensures { (ok : T → Bool) (holds : T → List ℕ → Bool) (K : ℕ → Bool) (hook : Hook T) (script : Script) (p : Program) → Keeps ok (λ t cursors. IsTrue (holds t cursors)) (λ class. true) hook script p → HookMigrates ok (λ t cursors. IsTrue (holds t cursors)) K hook script p → HookIsFaithful ok (λ t cursors. IsTrue (holds t cursors)) (λ class. true) hook script p }
+{}
+
+/// And it changes no report of a whole run.
+pub fn migrated_calls_change_no_report<T>()
+    ensures { (ok : T → Bool) (holds : T → List ℕ → Bool) (K : ℕ → Bool) (hook : Hook T) (script : Script) (p : Program) → Keeps ok (λ t cursors. IsTrue (holds t cursors)) (λ class. true) hook script p → HookMigrates ok (λ t cursors. IsTrue (holds t cursors)) K hook script p → ReportIsLocal ok (λ t cursors. IsTrue (holds t cursors)) hook script p }
 {}
