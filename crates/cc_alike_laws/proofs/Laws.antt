@@ -1,5 +1,5 @@
 -- The laws from their lemmas.
-use Rattle.std.proofs.Common.{◌≡◌, ℕ, Bool, true, false, List, [], ◌∷◌, Option, Some, None, refl, sym, ◌∙◌}
+use Rattle.std.proofs.Common.{◌≡◌, ℕ, Bool, true, false, List, [], ◌∷◌, Option, Some, None, refl, sym, ◌∙◌, subst}
 use Rattle.std.specs.Prelude.{IsTrue, ◌&&◌, ◌||◌, not, map, cond}
 use Rattle.cc_meaning.specs.declared.program.Field.{Field}
 use Rattle.cc_meaning.specs.declared.program.Program.{Program}
@@ -9,12 +9,13 @@ use Rattle.cc_meaning.specs.declared.value.Value.TheVariants as value
 use Rattle.cc_meaning.specs.Kinds.{kind_of}
 use Rattle.cc_meaning_world.specs.Opening.{out_object, opening_static, opening_world}
 use Rattle.cc_meaning_world.specs.Scripts.{is_stateful}
+use Rattle.cc_meaning_exec.specs.Eval.{Hook, call, eval_with}
 use Rattle.cc_meaning_exec.specs.WorkedPrograms.{nowhere}
 use Rattle.cc_meaning_alike.specs.Maps.{empty, link, In, here, there}
-use Rattle.cc_meaning_alike.specs.Worlds.{Each, nil, each, linked, AlikeValue, refs, two, outs}
+use Rattle.cc_meaning_alike.specs.Worlds.{Each, nil, each, linked, AlikeValue, refs, two, outs, start_at}
 use Rattle.cc_meaning_alike.specs.Acts.{asks_within}
-use Rattle.cc_meaning_alike.specs.Ends.{Keeps, HookFits}
-use Rattle.cc_meaning_alike.specs.Laws.{RunsAreAlike, InstructionsAreAlike, BuiltInCallsAreAlike, OpeningIsAlike, watch, RenamingAndLocality, WholeRenaming}
+use Rattle.cc_meaning_alike.specs.Ends.{FitsReply, Keeps, LooksOn, HookFits}
+use Rattle.cc_meaning_alike.specs.Laws.{RunsAreAlike, InstructionsAreAlike, BuiltInCallsAreAlike, OpeningIsAlike, no_notes, no_hold, everything, as_noted, watch, RenamingAndLocality, WholeRenaming}
 use Rattle.cc_alike_laws.proofs.Runs.{run_alike, zero_alike}
 use Rattle.cc_alike_laws.proofs.Insns.{act_at_alike}
 use Rattle.cc_alike_laws.proofs.Rows.{call_by_itself_alike}
@@ -31,35 +32,42 @@ built_in_calls_are_alike p f m args1 args2 u vs = call_by_itself_alike p m u vs
 
 -- ---- no answers of a hook
 
-and_first : (a b : Bool) → IsTrue (a && b) → IsTrue a
+pub and_first : (a b : Bool) → IsTrue (a && b) → IsTrue a
 and_first true b h = refl
 and_first false b h = h
 
-and_second : (a b : Bool) → IsTrue (a && b) → IsTrue b
+pub and_second : (a b : Bool) → IsTrue (a && b) → IsTrue b
 and_second true b h = h
 and_second false b h = absurd (cc)
 
-pub watch_keeps : (K : ℕ → Bool) (script : Script) (p : Program) → Keeps (λ (b : Bool). b) (λ (b : Bool) (cursors : List ℕ). Unit {0}) K (watch K script p) script p
+-- where nothing is wrong, nothing was
+pub nowhere_looks : LooksOn no_notes nowhere
+unfolding nowhere
+nowhere_looks = record {
+  right = record { entry = λ m args stack w t o. o; spent = λ m t o. o; called = λ m t o. o; ended = λ m e w t o. o };
+  here = λ m args stack w u. (u, refl);
+}
+
+pub watch_keeps : (K : ℕ → Bool) (script : Script) (p : Program) → Keeps as_noted no_hold K (watch K script p) script p
 unfolding watch
 watch_keeps K script p = record {
-  entry = λ m args stack w t o. o;
-  spent = λ m t o. o;
-  called = λ m t o. (and_first (asks_within K script p m) t o, and_second (asks_within K script p m) t o);
-  ended = λ m e w t o. o;
+  right = record { entry = λ m args stack w t o. o; spent = λ m t o. o; called = λ m t o. and_second (asks_within K script p m) t o; ended = λ m e w t o. o };
+  asks = λ m t o. and_first (asks_within K script p m) t o;
   holds_spent = λ m cursors t o h. tt;
   holds_acted = λ f w t o h. tt;
   holds_ended = λ m e w t o h. tt;
 }
 
-pub watch_fits : (K : ℕ → Bool) (script : Script) (p : Program) → HookFits (λ (b : Bool). b) (λ (b : Bool) (cursors : List ℕ). Unit {0}) K (watch K script p) script p
+pub watch_fits : {U : Type 0} (fine : U → Bool) (K : ℕ → Bool) (look : Hook U) (script : Script) (p : Program) → HookFits as_noted fine no_hold K (watch K script p) look script p
 unfolding watch
-watch_fits K script p f w1 w2 m args1 args2 stack n t a vs le h = λ o. tt
+watch_fits fine K look script p f w1 w2 m args1 args2 stack n t u u' a vs le h e o' = λ o. tt
 
 pub renaming_and_locality : (K : ℕ → Bool) (script : Script) (p : Program) → RenamingAndLocality K script p
-renaming_and_locality K script p = faithful (λ (b : Bool). b) (λ (b : Bool) (cursors : List ℕ). Unit {0}) K (watch K script p) script p (watch_keeps K script p) (watch_fits K script p)
+renaming_and_locality K script p = faithful as_noted no_notes no_hold K (watch K script p) nowhere script p (watch_keeps K script p) nowhere_looks (watch_fits no_notes K nowhere script p)
 
--- where all cursors agree, any answer may be taken
-pub any_within : (script : Script) (p : Program) (m : ℕ) → IsTrue (asks_within (λ class. true) script p m)
+-- ---- where all cursors agree, any answer may be taken
+
+any_within : (script : Script) (p : Program) (m : ℕ) → IsTrue (asks_within everything script p m)
 unfolding asks_within
 any_within script p m = by (is_stateful script p m)
   where
@@ -67,24 +75,23 @@ any_within script p m = by (is_stateful script p m)
     by true = refl
     by false = refl
 
-whole_keeps : (script : Script) (p : Program) → Keeps (λ (t : Unit {0}). true) (λ (t : Unit {0}) (cursors : List ℕ). Unit {0}) (λ class. true) nowhere script p
-unfolding nowhere
-whole_keeps script p = record {
-  entry = λ m args stack w t o. o;
-  spent = λ m t o. o;
-  called = λ m t o. (any_within script p m, o);
-  ended = λ m e w t o. o;
+-- a hook that looks on keeps all that it has to
+pub looking_keeps : {T : Type 0} (ok : T → Bool) (look : Hook T) (script : Script) (p : Program) → LooksOn ok look → Keeps ok no_hold everything look script p
+looking_keeps ok look script p looks = record {
+  right = looks.right;
+  asks = λ m t o. any_within script p m;
   holds_spent = λ m cursors t o h. tt;
   holds_acted = λ f w t o h. tt;
   holds_ended = λ m e w t o h. tt;
 }
 
-whole_fits : (script : Script) (p : Program) → HookFits (λ (t : Unit {0}). true) (λ (t : Unit {0}) (cursors : List ℕ). Unit {0}) (λ class. true) nowhere script p
-unfolding nowhere
-whole_fits script p f w1 w2 m args1 args2 stack n t a vs le h = λ o. tt
+pub looking_fits : {T U : Type 0} (ok : T → Bool) (fine : U → Bool) (look : Hook T) (other : Hook U) (script : Script) (p : Program) → LooksOn ok look → HookFits ok fine no_hold everything look other script p
+looking_fits ok fine look other script p looks f w1 w2 m args1 args2 stack n t u u' a vs le h e o' =
+    let here = looks.here m args1 stack w1 t in
+    subst (λ x. FitsReply ok fine no_hold everything (start_at f w1 w2) f n w1.cursors x (call other (eval_with other script p n) script p m args2 stack w2 u)) (sym here.1) (λ o. tt)
 
 pub whole_renaming : (script : Script) (p : Program) → WholeRenaming script p
-whole_renaming script p = faithful (λ (t : Unit {0}). true) (λ (t : Unit {0}) (cursors : List ℕ). Unit {0}) (λ class. true) nowhere script p (whole_keeps script p) (whole_fits script p)
+whole_renaming script p = faithful no_notes no_notes no_hold everything nowhere nowhere script p (looking_keeps no_notes nowhere script p nowhere_looks) nowhere_looks (looking_fits no_notes no_notes nowhere nowhere script p nowhere_looks)
 
 -- ---- the opening world
 

@@ -19,15 +19,15 @@ use Rattle.cc_meaning_world.specs.Changes.{less_by, with_words, with_objects}
 use Rattle.cc_meaning_world.specs.Opening.{out_object, opening_world, texts_class, numbered, argument_objects, with_arguments}
 use Rattle.cc_meaning_world.specs.Acts.{Reached, Returns, arrived, pay, paying}
 use Rattle.cc_meaning_exec.specs.Exceptions.{End, Returned, Thrown, Stopped, Jammed, Raised, end_of, raised_by}
-use Rattle.cc_meaning_exec.specs.Eval.{Ran, ran, Hook}
-use Rattle.cc_meaning_exec.specs.Runs.{run_main, begun, begun_in, with_made_arguments, run_with, onlooker, opening_invocations, output_of, calls_of, text_in, text_at, thrown_ending, ending_of, report_in, report_of, onlooked, local, kept_of, Invocations}
+use Rattle.cc_meaning_exec.specs.Eval.{Ran, ran, Reply, Here, Answer, Hook}
+use Rattle.cc_meaning_exec.specs.Runs.{run_main, begun, begun_in, with_made_arguments, run_with, entered, onlooker, opening_invocations, output_of, calls_of, text_in, text_at, thrown_ending, ending_of, report_in, report_of, onlooked, local, kept_of, Invocations}
 use Rattle.cc_meaning_exec.specs.WorkedPrograms.{nowhere}
 use Rattle.cc_meaning_alike.specs.Maps.{Map, empty, link, In, here, there, Extends}
 use Rattle.cc_meaning_alike.specs.Worlds.{Each, nil, each, AlikeHeaps, nulls, linked, AlikeValue, ints, longs, refs, AlikeObject, outs, instances, arrays, texts, builders, constants, BothObjects, two, Alike, start_at}
-use Rattle.cc_meaning_alike.specs.Ends.{AlikeEnd, both_return, both_throw, both_stop, both_jam, EndedAlike, AlikeRan, Keeps, HookFits}
-use Rattle.cc_meaning_alike.specs.Laws.{ReportIsLocal}
+use Rattle.cc_meaning_alike.specs.Ends.{AlikeEnd, both_return, both_throw, both_stop, both_jam, AlikeRan, WasRight, Keeps, LooksOn, HookFits}
+use Rattle.cc_meaning_alike.specs.Laws.{ReportIsLocal, no_notes, no_hold, everything}
 use Rattle.cc_alike_laws.proofs.Maps.{in_link, each_get, each_append, grow_values}
-use Rattle.cc_alike_laws.proofs.Laws.{any_within, opening_alike}
+use Rattle.cc_alike_laws.proofs.Laws.{nowhere_looks, looking_keeps, looking_fits, opening_alike}
 use Rattle.cc_alike_laws.proofs.Glue.{moved}
 use Rattle.cc_alike_laws.proofs.Evals.{main_faithful}
 
@@ -164,48 +164,64 @@ report_same limits w1 w2 None e c = refl
 report_same limits w1 w2 (Some x) e c = rw (e, c) refl
 
 -- where both began in one world, alike ends have one report
-ran_same : {T U : Type 0} (ok : T → Bool) (Holds : T → List ℕ → Type 0) (K : ℕ → Bool) (limits : Limits) (f : Map) (u : World) (n : ℕ) (r1 : Ran T) (r2 : Ran U) → AlikeRan ok Holds K (start_at f u u) f n r1 r2 → IsTrue (ok (kept_of r1)) →
-    report_of limits r1 ≡ report_of limits r2
+ran_same : {T U : Type 0} (ok : T → Bool) (fine : U → Bool) (Holds : T → List ℕ → Type 0) (K : ℕ → Bool) (limits : Limits) (f : Map) (w : World) (n : ℕ) (r1 : Ran T) (r2 : Ran U) → AlikeRan ok fine Holds K (start_at f w w) f n r1 r2 →
+    IsTrue (ok (kept_of r1)) → IsTrue (fine (kept_of r2)) → report_of limits r1 ≡ report_of limits r2
 unfolding report_of kept_of
-ran_same ok Holds K limits f u n (ran e1 w1 t1) (ran e2 w2 t2) h o =
-    let r = (h o).0 in
+ran_same ok fine Holds K limits f w n (ran e1 w1 t1) (ran e2 w2 u2) h o o' =
+    let r = (h o o').0 in
     ap (option_map (report_in limits w1)) (ending_same w1 w2 r.pair.alike.heap r.ends) ∙ report_same limits w1 w2 (ending_of w2 e2) (r.pair.since.events_first ∙ sym r.pair.since.events_second) r.pair.alike.counters
 
-module _ {T : Type 0} (ok : T → Bool) (Holds : T → List ℕ → Type 0) (K : ℕ → Bool) (script : Script) (p : Program) (hook : Hook T) (keeps : Keeps ok Holds K hook script p) (fits : HookFits ok Holds K hook script p) (ts : List (List ℕ)) (limits : Limits) (t : T) (hd : Holds t (opening_world p limits).cursors) where
-  begun_same : (x : Option ℕ) → IsTrue (ok (kept_of (begun_in hook script p limits.instructions (raised_by (pay x (opening_world p limits) (made_in p ts))) t))) →
-      report_of limits (begun_in hook script p limits.instructions (raised_by (pay x (opening_world p limits) (made_in p ts))) t) ≡ report_of limits (begun_in nowhere script p limits.instructions (raised_by (pay x (opening_world p limits) (made_in p ts))) tt)
-  unfolding begun_in begun raised_by end_of pay arrived made_in report_of world_then opening_world with_objects with_words
-  begun_same None o = refl
-  begun_same (Some words) o =
-      ran_same ok Holds K limits _ _ limits.instructions _ _
-      (main_faithful ok Holds K hook script p keeps fits (diagonal (length (objects_then p ts))) limits.instructions _ _ (world_then p ts limits words) (world_then p ts limits words) t (then_alike K p ts limits words)
-      (each (refs (linked (on_diagonal _ _ (let e = counted_then p ts in omega arith)))) nil) (then_left p ts limits words) hd) o
+-- what follows on the arguments, or on too few words for them
+then_run : {T : Type 0} → Hook T → Script → Program → List (List ℕ) → Limits → Option ℕ → T → Ran T
+then_run hook script p ts limits x t = begun_in hook script p limits.instructions (raised_by (pay x (opening_world p limits) (made_in p ts))) t
 
-  pub run_same : IsTrue (ok (kept_of (run_with hook script p ts limits t))) → report_of limits (run_with hook script p ts limits t) ≡ report_of limits (run_with nowhere script p ts limits tt)
-  unfolding run_with with_made_arguments with_arguments paying made_in
-  run_same o = begun_same _ o
+module _ {T U : Type 0} (ok : T → Bool) (fine : U → Bool) (Holds : T → List ℕ → Type 0) (K : ℕ → Bool) (hook : Hook T) (look : Hook U) (script : Script) (p : Program)
+    (keeps : Keeps ok Holds K hook script p) (looks : LooksOn fine look) (fits : HookFits ok fine Holds K hook look script p) (ts : List (List ℕ)) (limits : Limits) (t : T) (u : U) (hd : Holds t (opening_world p limits).cursors) where
+  begun_same : (x : Option ℕ) → IsTrue (ok (kept_of (then_run hook script p ts limits x t))) → IsTrue (fine (kept_of (then_run look script p ts limits x u))) →
+      report_of limits (then_run hook script p ts limits x t) ≡ report_of limits (then_run look script p ts limits x u)
+  unfolding then_run begun_in begun raised_by end_of pay arrived made_in report_of world_then opening_world with_objects with_words
+  begun_same None o o' = refl
+  begun_same (Some words) o o' =
+      ran_same ok fine Holds K limits _ _ limits.instructions _ _
+      (main_faithful ok fine Holds K hook look script p keeps looks fits (diagonal (length (objects_then p ts))) limits.instructions _ _ (world_then p ts limits words) (world_then p ts limits words) t u (then_alike K p ts limits words)
+      (each (refs (linked (on_diagonal _ _ (let e = counted_then p ts in omega arith)))) nil) (then_left p ts limits words) hd) o o'
+
+  pub run_same : IsTrue (ok (kept_of (run_with hook script p ts limits t))) → IsTrue (fine (kept_of (run_with look script p ts limits u))) →
+      report_of limits (run_with hook script p ts limits t) ≡ report_of limits (run_with look script p ts limits u)
+  unfolding run_with with_made_arguments with_arguments paying made_in then_run
+  run_same o o' = begun_same _ o o'
 
 -- ---- the run on one heap
 
-onlooker_keeps : (script : Script) (p : Program) → Keeps (λ (t : Invocations). true) (λ (t : Invocations) (cursors : List ℕ). Unit {0}) (λ class. true) (onlooker p.main) script p
+-- a hook that looks on changes no report
+looked_on_same : {T : Type 0} (look : Hook T) (script : Script) (p : Program) (ts : List (List ℕ)) (limits : Limits) (t : T) → LooksOn (λ (t : T). true) look →
+    report_of limits (run_with look script p ts limits t) ≡ report_of limits (run_with nowhere script p ts limits tt)
+looked_on_same {T} look script p ts limits t looks =
+    run_same (λ (t : T). true) no_notes no_hold everything look nowhere script p (looking_keeps (λ (t : T). true) look script p looks) nowhere_looks (looking_fits (λ (t : T). true) no_notes look nowhere script p looks) ts limits t tt tt refl refl
+
+onlooker_looks : (p : Program) → LooksOn (λ (t : Invocations). true) (onlooker p.main)
 unfolding onlooker
-onlooker_keeps script p = record {
-  entry = λ m args stack w t o. o;
-  spent = λ m t o. o;
-  called = λ m t o. (any_within script p m, o);
-  ended = λ m e w t o. o;
-  holds_spent = λ m cursors t o h. tt;
-  holds_acted = λ f w t o h. tt;
-  holds_ended = λ m e w t o h. tt;
+onlooker_looks p = record {
+  right = record { entry = λ m args stack w t o. o; spent = λ m t o. o; called = λ m t o. o; ended = λ m e w t o. o };
+  here = λ m args stack w u. (entered p.main m stack u, refl);
 }
 
-onlooker_fits : (script : Script) (p : Program) → HookFits (λ (t : Invocations). true) (λ (t : Invocations) (cursors : List ℕ). Unit {0}) (λ class. true) (onlooker p.main) script p
-unfolding onlooker
-onlooker_fits script p f w1 w2 m args1 args2 stack n t a vs le h = λ o. tt
+-- whatever a hook notes that looks on
+always_looks : {U : Type 0} (fine : U → Bool) (look : Hook U) → LooksOn fine look → LooksOn (λ (u : U). true) look
+always_looks {U} fine look looks = record {
+  right = record { entry = λ m args stack w t. any_reply t (look.entry m args stack w t); spent = λ m t o. refl; called = λ m t o. refl; ended = λ m e w t o. refl };
+  here = looks.here;
+}
+  where
+    any_reply : (t : U) (x : Reply U) → WasRight (λ (u : U). true) t x
+    any_reply t (Here t') = λ o. refl
+    any_reply t (Answer e w t') = λ o. refl
 
 local_same : (script : Script) (p : Program) (ts : List (List ℕ)) (limits : Limits) → local script p ts limits ≡ report_of limits (run_with nowhere script p ts limits tt)
 unfolding local onlooked
-local_same script p ts limits = run_same (λ (t : Invocations). true) (λ (t : Invocations) (cursors : List ℕ). Unit {0}) (λ class. true) script p (onlooker p.main) (onlooker_keeps script p) (onlooker_fits script p) ts limits (opening_invocations p.main) tt refl
+local_same script p ts limits = looked_on_same (onlooker p.main) script p ts limits (opening_invocations p.main) (onlooker_looks p)
 
-pub report_is_local : {T : Type 0} (ok : T → Bool) (Holds : T → List ℕ → Type 0) (K : ℕ → Bool) (hook : Hook T) (script : Script) (p : Program) → Keeps ok Holds K hook script p → HookFits ok Holds K hook script p → ReportIsLocal ok Holds hook script p
-report_is_local ok Holds K hook script p keeps fits ts limits t hd o = run_same ok Holds K script p hook keeps fits ts limits t hd o ∙ sym (local_same script p ts limits)
+pub report_is_local : {T U : Type 0} (ok : T → Bool) (fine : U → Bool) (Holds : T → List ℕ → Type 0) (K : ℕ → Bool) (hook : Hook T) (look : Hook U) (script : Script) (p : Program) → Keeps ok Holds K hook script p → LooksOn fine look →
+    HookFits ok fine Holds K hook look script p → ReportIsLocal ok fine Holds hook look script p
+report_is_local ok fine Holds K hook look script p keeps looks fits ts limits t u hd o o' =
+    run_same ok fine Holds K hook look script p keeps looks fits ts limits t u hd o o' ∙ looked_on_same look script p ts limits u (always_looks fine look looks) ∙ sym (local_same script p ts limits)

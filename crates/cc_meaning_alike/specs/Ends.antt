@@ -1,5 +1,5 @@
 -- Runs that end alike, and hooks whose answers are right.
-use Rattle.std.specs.Prelude.{ℕ, ◌≤◌, Bool, List, Option, IsTrue}
+use Rattle.std.specs.Prelude.{◌≡◌, ℕ, ◌≤◌, Bool, List, Option, IsTrue}
 use Rattle.cc_meaning.specs.declared.program.Program.{Program}
 use Rattle.cc_meaning.specs.declared.report.StopCause.{StopCause}
 use Rattle.cc_meaning.specs.declared.script.Script.{Script}
@@ -8,7 +8,6 @@ use Rattle.cc_meaning_world.specs.World.{World, Locals, Stack}
 use Rattle.cc_meaning_exec.specs.Frames.{Frame}
 use Rattle.cc_meaning_exec.specs.Exceptions.{End, Returned, Thrown, Stopped, Jammed}
 use Rattle.cc_meaning_exec.specs.Eval.{Ran, ran, Reply, Here, Answer, Hook, told_calls, acts_at, call, eval_with}
-use Rattle.cc_meaning_exec.specs.WorkedPrograms.{nowhere}
 use Rattle.cc_meaning_alike.specs.Maps.{Map, In, Extends}
 use Rattle.cc_meaning_alike.specs.Worlds.{Each, Both, AlikeValue, Alike, Start, start_at, Pair}
 use Rattle.cc_meaning_alike.specs.Acts.{asks_within}
@@ -34,33 +33,45 @@ frame_at m pc stack locals = record { method = m; pc = pc; locals = locals; stac
 
 -- ---- hooks
 
--- Where what a hook has noted at the end is right (`ok`), both runs ended alike, and what the hook keeps fits the cursors of its side (`Holds`).
-abbrev pub AlikeRan : {T U : Type 0} → (T → Bool) → (T → List ℕ → Type 0) → (ℕ → Bool) → Start → Map → ℕ → Ran T → Ran U → Type 0
-AlikeRan ok Holds K s f n (ran e1 w1 t1) (ran e2 w2 t2) = IsTrue (ok t1) → EndedAlike K s f n e1 e2 w1 w2 × Holds t1 w1.cursors
+-- Where what both sides have noted at the end is right (`ok`, `fine`), both runs ended alike, and what the first side's hook keeps fits the cursors of its side (`Holds`).
+abbrev pub AlikeRan : {T U : Type 0} → (T → Bool) → (U → Bool) → (T → List ℕ → Type 0) → (ℕ → Bool) → Start → Map → ℕ → Ran T → Ran U → Type 0
+AlikeRan ok fine Holds K s f n (ran e1 w1 t1) (ran e2 w2 u2) = IsTrue (ok t1) → IsTrue (fine u2) → EndedAlike K s f n e1 e2 w1 w2 × Holds t1 w1.cursors
 
 -- What a hook's reply has to be, where the call comes to r2 on the other side: only where what is noted with it is right.
-abbrev pub FitsReply : {T U : Type 0} → (T → Bool) → (T → List ℕ → Type 0) → (ℕ → Bool) → Start → Map → ℕ → List ℕ → Reply T → Ran U → Type 0
-FitsReply ok Holds K s f n cursors (Here t) r2 = IsTrue (ok t) → Holds t cursors
-FitsReply ok Holds K s f n cursors (Answer e w t) r2 = AlikeRan ok Holds K s f n (ran e w t) r2
+abbrev pub FitsReply : {T U : Type 0} → (T → Bool) → (U → Bool) → (T → List ℕ → Type 0) → (ℕ → Bool) → Start → Map → ℕ → List ℕ → Reply T → Ran U → Type 0
+FitsReply ok fine Holds K s f n cursors (Here t) r2 = IsTrue (ok t) → Holds t cursors
+FitsReply ok fine Holds K s f n cursors (Answer e w t) r2 = AlikeRan ok fine Holds K s f n (ran e w t) r2
 
 -- what was noted before a reply is right where what is noted with it is right
 abbrev pub WasRight : {T : Type 0} → (T → Bool) → T → Reply T → Type 0
 WasRight ok t (Here t') = IsTrue (ok t') → IsTrue (ok t)
 WasRight ok t (Answer e w t') = IsTrue (ok t') → IsTrue (ok t)
 
--- What is right at the end was right throughout, and then no answer was taken of a class outside `K`, and what the hook keeps went on to fit the cursors.
-pub record Keeps {T : Type 0} (ok : T → Bool) (Holds : T → List ℕ → Type 0) (K : ℕ → Bool) (hook : Hook T) (script : Script) (p : Program) : Type 0 where
+-- what is right at the end was right throughout
+pub record StaysRight {T : Type 0} (ok : T → Bool) (hook : Hook T) : Type 0 where
   pub entry : (m : ℕ) (args : List Value) (stack : Stack) (w : World) (t : T) → WasRight ok t (hook.entry m args stack w t)
   pub spent : (m : ℕ) (t : T) → IsTrue (ok (hook.spent m t)) → IsTrue (ok t)
-  pub called : (m : ℕ) (t : T) → IsTrue (ok (hook.called m t)) → IsTrue (asks_within K script p m) × IsTrue (ok t)
+  pub called : (m : ℕ) (t : T) → IsTrue (ok (hook.called m t)) → IsTrue (ok t)
   pub ended : (m : ℕ) (e : End) (w : World) (t : T) → IsTrue (ok (hook.ended m e w t)) → IsTrue (ok t)
+
+-- What is right at the end was right throughout; then no answer was taken of a class outside `K`, and what the hook keeps went on to fit the cursors.
+pub record Keeps {T : Type 0} (ok : T → Bool) (Holds : T → List ℕ → Type 0) (K : ℕ → Bool) (hook : Hook T) (script : Script) (p : Program) : Type 0 where
+  pub right : StaysRight ok hook
+  pub asks : (m : ℕ) (t : T) → IsTrue (ok (hook.called m t)) → IsTrue (asks_within K script p m)
   pub holds_spent : (m : ℕ) (cursors : List ℕ) (t : T) → IsTrue (ok (hook.spent m t)) → Holds t cursors → Holds (hook.spent m t) cursors
   pub holds_acted : (f : Frame) (w : World) (t : T) → IsTrue (ok (told_calls hook (acts_at script p f w).called t)) → Holds t w.cursors →
       Holds (told_calls hook (acts_at script p f w).called t) (acts_at script p f w).world.cursors
   pub holds_ended : (m : ℕ) (e : End) (w : World) (t : T) → IsTrue (ok (hook.ended m e w t)) → Holds t w.cursors → Holds (hook.ended m e w t) w.cursors
 
--- at each entry, from worlds that are alike, the hook's answer is what the call comes to on the other side, where every call is evaluated
-abbrev pub HookFits : {T : Type 0} → (T → Bool) → (T → List ℕ → Type 0) → (ℕ → Bool) → Hook T → Script → Program → Type 0
-HookFits {T} ok Holds K hook script p =
-    (f : Map) (w1 w2 : World) (m : ℕ) (args1 args2 : List Value) (stack : Stack) (n : ℕ) (t : T) → Alike K f w1 w2 → Each (AlikeValue f) args1 args2 → w2.counters.instructions ≤ n → Holds t w1.cursors →
-    FitsReply ok Holds K (start_at f w1 w2) f n w1.cursors (hook.entry m args1 stack w1 t) (call nowhere (eval_with nowhere script p n) script p m args2 stack w2 tt)
+-- a hook that evaluates every method where it is called, and only notes; what it has noted at the end is right only where it was right throughout
+pub record LooksOn {U : Type 0} (fine : U → Bool) (look : Hook U) : Type 0 where
+  pub right : StaysRight fine look
+  pub here : (m : ℕ) (args : List Value) (stack : Stack) (w : World) (u : U) → (u' : U) × (look.entry m args stack w u ≡ Here u')
+
+-- At each entry, from worlds that are alike, the hook's answer is what the call comes to on the other side, where a hook only looks on. It may rest on what that one has
+-- noted with this entry.
+abbrev pub HookFits : {T U : Type 0} → (T → Bool) → (U → Bool) → (T → List ℕ → Type 0) → (ℕ → Bool) → Hook T → Hook U → Script → Program → Type 0
+HookFits {T} {U} ok fine Holds K hook look script p =
+    (f : Map) (w1 w2 : World) (m : ℕ) (args1 args2 : List Value) (stack : Stack) (n : ℕ) (t : T) (u u' : U) → Alike K f w1 w2 → Each (AlikeValue f) args1 args2 → w2.counters.instructions ≤ n →
+    Holds t w1.cursors → look.entry m args2 stack w2 u ≡ Here u' → IsTrue (fine u') →
+    FitsReply ok fine Holds K (start_at f w1 w2) f n w1.cursors (hook.entry m args1 stack w1 t) (call look (eval_with look script p n) script p m args2 stack w2 u)

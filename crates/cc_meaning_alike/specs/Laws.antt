@@ -38,28 +38,49 @@ OpeningIsAlike = (K : ℕ → Bool) (p : Program) (limits : Limits) → Alike K 
 
 -- ---- methods
 
--- from worlds that are alike, a hook leads to what evaluating every call leads to on the other side
-abbrev pub HookIsFaithful : {T : Type 0} → (T → Bool) → (T → List ℕ → Type 0) → (ℕ → Bool) → Hook T → Script → Program → Type 0
-HookIsFaithful {T} ok Holds K hook script p =
-    (f : Map) (n m pc : ℕ) (stack : Stack) (l1 l2 : Locals) (w1 w2 : World) (t : T) → Alike K f w1 w2 → AlikeLocals f l1 l2 → w2.counters.instructions ≤ n → Holds t w1.cursors →
-    AlikeRan ok Holds K (start_at f w1 w2) f n (eval_with hook script p n (frame_at m pc stack l1) w1 t) (eval_with nowhere script p n (frame_at m pc stack l2) w2 tt)
+-- what a test says of what a hook keeps and the cursors of its side
+abbrev pub held : {T : Type 0} → (T → List ℕ → Bool) → T → List ℕ → Type 0
+held holds t cursors = IsTrue (holds t cursors)
+
+-- from worlds that are alike, a hook leads to what a hook that looks on leads to on the other side
+abbrev pub HookIsFaithful : {T U : Type 0} → (T → Bool) → (U → Bool) → (T → List ℕ → Type 0) → (ℕ → Bool) → Hook T → Hook U → Script → Program → Type 0
+HookIsFaithful {T} {U} ok fine Holds K hook look script p =
+    (f : Map) (n m pc : ℕ) (stack : Stack) (l1 l2 : Locals) (w1 w2 : World) (t : T) (u : U) → Alike K f w1 w2 → AlikeLocals f l1 l2 → w2.counters.instructions ≤ n → Holds t w1.cursors →
+    AlikeRan ok fine Holds K (start_at f w1 w2) f n (eval_with hook script p n (frame_at m pc stack l1) w1 t) (eval_with look script p n (frame_at m pc stack l2) w2 u)
 
 -- the same from the call of a method on
-abbrev pub CallIsFaithful : {T : Type 0} → (T → Bool) → (T → List ℕ → Type 0) → (ℕ → Bool) → Hook T → Script → Program → Type 0
-CallIsFaithful {T} ok Holds K hook script p =
-    (f : Map) (n m : ℕ) (args1 args2 : List Value) (stack : Stack) (w1 w2 : World) (t : T) → Alike K f w1 w2 → Each (AlikeValue f) args1 args2 → w2.counters.instructions ≤ n → Holds t w1.cursors →
-    AlikeRan ok Holds K (start_at f w1 w2) f n (call hook (eval_with hook script p n) script p m args1 stack w1 t) (call nowhere (eval_with nowhere script p n) script p m args2 stack w2 tt)
+abbrev pub CallIsFaithful : {T U : Type 0} → (T → Bool) → (U → Bool) → (T → List ℕ → Type 0) → (ℕ → Bool) → Hook T → Hook U → Script → Program → Type 0
+CallIsFaithful {T} {U} ok fine Holds K hook look script p =
+    (f : Map) (n m : ℕ) (args1 args2 : List Value) (stack : Stack) (w1 w2 : World) (t : T) (u : U) → Alike K f w1 w2 → Each (AlikeValue f) args1 args2 → w2.counters.instructions ≤ n → Holds t w1.cursors →
+    AlikeRan ok fine Holds K (start_at f w1 w2) f n (call hook (eval_with hook script p n) script p m args1 stack w1 t) (call look (eval_with look script p n) script p m args2 stack w2 u)
 
 -- the same from the start of the class of `main` on
-abbrev pub MainIsFaithful : {T : Type 0} → (T → Bool) → (T → List ℕ → Type 0) → (ℕ → Bool) → Hook T → Script → Program → Type 0
-MainIsFaithful {T} ok Holds K hook script p =
-    (f : Map) (n : ℕ) (args1 args2 : List Value) (w1 w2 : World) (t : T) → Alike K f w1 w2 → Each (AlikeValue f) args1 args2 → w2.counters.instructions ≤ n → Holds t w1.cursors →
-    AlikeRan ok Holds K (start_at f w1 w2) f n (run_main hook script p n args1 w1 t) (run_main nowhere script p n args2 w2 tt)
+abbrev pub MainIsFaithful : {T U : Type 0} → (T → Bool) → (U → Bool) → (T → List ℕ → Type 0) → (ℕ → Bool) → Hook T → Hook U → Script → Program → Type 0
+MainIsFaithful {T} {U} ok fine Holds K hook look script p =
+    (f : Map) (n : ℕ) (args1 args2 : List Value) (w1 w2 : World) (t : T) (u : U) → Alike K f w1 w2 → Each (AlikeValue f) args1 args2 → w2.counters.instructions ≤ n → Holds t w1.cursors →
+    AlikeRan ok fine Holds K (start_at f w1 w2) f n (run_main hook script p n args1 w1 t) (run_main look script p n args2 w2 u)
 
--- A whole run with a hook gives the report of the run on one heap, where what the hook has noted at its end is right.
-abbrev pub ReportIsLocal : {T : Type 0} → (T → Bool) → (T → List ℕ → Type 0) → Hook T → Script → Program → Type 0
-ReportIsLocal {T} ok Holds hook script p = (texts : List (List ℕ)) (limits : Limits) (t : T) → Holds t (opening_world p limits).cursors → IsTrue (ok (kept_of (run_with hook script p texts limits t))) →
+-- A whole run with a hook gives the report of the run on one heap, where what the hook has noted at its end is right, and so is what one that looks on has noted of the
+-- run on one heap.
+abbrev pub ReportIsLocal : {T U : Type 0} → (T → Bool) → (U → Bool) → (T → List ℕ → Type 0) → Hook T → Hook U → Script → Program → Type 0
+ReportIsLocal {T} {U} ok fine Holds hook look script p = (texts : List (List ℕ)) (limits : Limits) (t : T) (u : U) → Holds t (opening_world p limits).cursors →
+    IsTrue (ok (kept_of (run_with hook script p texts limits t))) → IsTrue (fine (kept_of (run_with look script p texts limits u))) →
     report_of limits (run_with hook script p texts limits t) ≡ local script p texts limits
+
+-- ---- renaming and locality
+
+-- nothing is noted
+abbrev pub no_notes : Unit {0} → Bool
+no_notes u = true
+
+abbrev pub no_hold : {T : Type 0} → T → List ℕ → Type 0
+no_hold t cursors = Unit {0}
+
+abbrev pub everything : ℕ → Bool
+everything class = true
+
+abbrev pub as_noted : Bool → Bool
+as_noted b = b
 
 -- evaluates every method where it is called, and notes whether all answers so far were of classes in `K`
 unfoldable pub watch : (ℕ → Bool) → Script → Program → Hook Bool
@@ -73,8 +94,8 @@ watch K script p = record {
 -- Renaming and locality: from alike registers in worlds that are alike, where only answers of classes in `K` are taken, evaluating leads to alike ends in worlds that are
 -- alike again; the added events are equal, and the objects outside the map and the cursors outside `K` are as they were.
 abbrev pub RenamingAndLocality : (ℕ → Bool) → Script → Program → Type 0
-RenamingAndLocality K script p = HookIsFaithful (λ (b : Bool). b) (λ (b : Bool) (cursors : List ℕ). Unit {0}) K (watch K script p) script p
+RenamingAndLocality K script p = HookIsFaithful as_noted no_notes no_hold K (watch K script p) nowhere script p
 
 -- The same where all cursors agree: then nothing is asked of the answers that are taken.
 abbrev pub WholeRenaming : Script → Program → Type 0
-WholeRenaming script p = HookIsFaithful (λ (t : Unit {0}). true) (λ (t : Unit {0}) (cursors : List ℕ). Unit {0}) (λ class. true) nowhere script p
+WholeRenaming script p = HookIsFaithful no_notes no_notes no_hold everything nowhere nowhere script p

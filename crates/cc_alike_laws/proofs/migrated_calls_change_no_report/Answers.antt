@@ -1,7 +1,9 @@
-use Rattle.std.specs.Prelude.{true, IsTrue}
+use Rattle.cc_meaning_alike.specs.Laws.{held, everything, as_noted}
+use Rattle.cc_meaning_alike.specs.Migration.{entries_pass}
 use Rattle.cc_alike_laws.proofs.Reports.{report_is_local}
-use Rattle.cc_alike_laws.proofs.Glue.{migrating_fits}
+use Rattle.cc_alike_laws.proofs.Glue.{passing_looks, migrating_fits}
 use Rattle.cc_alike_laws.proofs.migrated_calls_change_no_report.Goals as goal
 
 pub returns : goal.returns
-returns g c ok holds K hook script p keeps h texts limits t hd o = report_is_local ok (λ t cursors. IsTrue (holds t cursors)) (λ class. true) hook script p keeps (migrating_fits ok (λ t cursors. IsTrue (holds t cursors)) K hook script p h) texts limits t hd o
+returns g c ok holds K test hook script p keeps shared h texts limits t u hd o fine =
+    report_is_local ok as_noted (held holds) everything hook (entries_pass test) script p keeps (passing_looks test) (migrating_fits ok (held holds) K test hook script p shared h) texts limits t u hd o fine
