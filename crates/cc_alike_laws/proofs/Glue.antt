@@ -1,6 +1,6 @@
 -- Worlds by way of a third, and what a smaller map says of a larger one.
 use Rattle.std.proofs.Common.{◌≡◌, ◌⊎◌, ℕ, ◌==◌, ◌<◌, ◌≤◌, List, [], ◌∷◌, ◌++◌, length, Option, Some, Bool, true, false, refl, sym, ap, ◌∙◌, subst, inl, inr, ⊎_elim, arith, slice_get, eq-eqb, eqb-true, true≢false}
-use Rattle.std.specs.Prelude.{◌&&◌, IsTrue}
+use Rattle.std.specs.Prelude.{IsTrue}
 use native.Mathlib.Decide.{ℕ_discrete}
 use Rattle.cc_meaning.specs.declared.program.Program.{Program}
 use Rattle.cc_meaning.specs.declared.script.Script.{Script}
@@ -15,11 +15,11 @@ use Rattle.cc_meaning_alike.specs.Maps.{Map, empty, link, In, here, there, Exten
 use Rattle.cc_meaning_alike.specs.Worlds.{Each, nil, each, neither, both, nulls, linked, AlikeValue, ints, longs, refs, AlikeObject, outs, instances, arrays, texts, builders, constants, BothObjects, two, AlikeMade, Alike, start_at}
 use Rattle.cc_meaning_alike.specs.Ends.{AlikeEnd, both_return, both_throw, both_stop, both_jam, EndedAlike, AlikeRan, FitsReply, LooksOn, HookFits}
 use Rattle.cc_meaning_alike.specs.Laws.{no_hold, everything, as_noted, watch}
-use Rattle.cc_meaning_alike.specs.Migration.{Migrated, IsMigrated, entries_pass, IsOfNoNumber, HookMigrates}
+use Rattle.cc_meaning_alike.specs.Migration.{Migrated, IsMigrated, HookMigrates}
 use Rattle.cc_alike_laws.proofs.Maps.{in_link, grow_both, grow_values, grow_made, grow_pending}
 use Rattle.cc_alike_laws.proofs.Worlds.{stands}
 use Rattle.cc_alike_laws.proofs.Evals.{call_faithful}
-use Rattle.cc_alike_laws.proofs.Laws.{and_first, and_second, watch_keeps, watch_fits}
+use Rattle.cc_alike_laws.proofs.Laws.{watch_keeps, watch_fits}
 
 -- the other way round
 pub flip_in : {f : Map} {a b : ℕ} → In f a b → In (inverse f) b a
@@ -376,39 +376,21 @@ module _ {f f0 : Map} {w1 w2 u1 u2 : World} {n : ℕ} {e1 e2 : End} {K : ℕ →
 migrated_fits : {U : Type 0} (fine : U → Bool) (look : Hook U) → LooksOn fine look → (K : ℕ → Bool) (script : Script) (p : Program) (f : Map) (w1 w2 : World) (m : ℕ) (args1 args2 : List Value) (stack : Stack) (n : ℕ) (e : End) (w1' : World) (u : U) →
     Alike everything f w1 w2 → Each (AlikeValue f) args1 args2 → w2.counters.instructions ≤ n → Migrated K script p n m args1 stack w1 e w1' → (e2 : End) (w2' : World) (u2 : U) →
     call look (eval_with look script p n) script p m args2 stack w2 u ≡ ran e2 w2' u2 → IsTrue (fine u2) → EndedAlike everything (start_at f w1 w2) f n e e2 w1' w2'
-migrated_fits fine look looks K script p f w1 w2 m args1 args2 stack n e w1' u a args le g e2 w2' u2 er o' =
+migrated_fits {U} fine look looks K script p f w1 w2 m args1 args2 stack n e w1' u a args le g e2 w2' u2 er o' =
     let k = composed (inverse g.map) f in
     let q : Alike K k g.clone w2 = alike_composed (alike_inverse g.captured) (alike_less a) in
     let us : Each (AlikeValue k) g.clone_args args2 = values_composed (flip_values g.captured_args) args in
-    let run = call_faithful as_noted fine no_hold K (watch K script p) look script p (watch_keeps K script p) looks (watch_fits fine K look script p) k n m g.clone_args args2 stack g.clone w2 true u q us le tt in
-    let run' = subst (λ r. AlikeRan as_noted fine (no_hold {T = Bool}) K (start_at k g.clone w2) k n (ran g.clone_end g.clone_after true) r) er
-    (subst (λ r. AlikeRan as_noted fine (no_hold {T = Bool}) K (start_at k g.clone w2) k n r (call look (eval_with look script p n) script p m args2 stack w2 u)) g.evaluated run) in
+    let run = call_faithful as_noted fine no_hold K (watch K script p) look script p (watch_keeps fine K look script p) looks (watch_fits fine K look script p) k n m g.clone_args args2 stack g.clone w2 true u q us le tt in
+    let run' = subst (λ r. AlikeRan as_noted fine (no_hold {T = Bool} {U = U}) K (start_at k g.clone w2) k n (ran g.clone_end g.clone_after true) r) er
+    (subst (λ r. AlikeRan as_noted fine (no_hold {T = Bool} {U = U}) K (start_at k g.clone w2) k n r (call look (eval_with look script p n) script p m args2 stack w2 u)) g.evaluated run) in
     let both_runs = ended_composed g.captured q g.merged (run' refl o').0 in
     ended_framed a (λ x y i. let h = compose_out g.map k x y i in let h' = compose_out (inverse g.map) f h.0 y h.2 in moved (g.captured.heap.one.one_left x h'.0 h.0 h.1 (back_in g.map h'.0 h.0 h'.1)) refl h'.2) both_runs
 
--- ---- entries that pass a test
-
-pub passing_looks : (test : ℕ → List Value → Stack → World → Bool) → LooksOn as_noted (entries_pass test)
-unfolding entries_pass
-passing_looks test = record {
-  right = record { entry = λ m args stack w t o. and_second (test m args stack w) t o; spent = λ m t o. o; called = λ m t o. o; ended = λ m e w t o. o };
-  here = λ m args stack w u. (test m args stack w && u, refl);
-}
-
-noted_in : {T : Type 0} → T → Reply T → T
-noted_in t (Here t') = t'
-noted_in t (Answer e w t') = t'
-
-has_passed : (test : ℕ → List Value → Stack → World → Bool) (m : ℕ) (args : List Value) (stack : Stack) (w : World) (u u' : Bool) → (entries_pass test).entry m args stack w u ≡ Here u' → IsTrue u' → IsTrue (test m args stack w)
-unfolding entries_pass noted_in
-has_passed test m args stack w u u' e o' = and_first (test m args stack w) u (subst (λ b. IsTrue b) (sym (ap (noted_in u) e)) o')
-
-pub migrating_fits : {T : Type 0} (ok : T → Bool) (Holds : T → List ℕ → Type 0) (K : ℕ → Bool) (test : ℕ → List Value → Stack → World → Bool) (hook : Hook T) (script : Script) (p : Program) → IsOfNoNumber test →
-    HookMigrates ok Holds K test hook script p → HookFits ok as_noted Holds everything hook (entries_pass test) script p
-migrating_fits {T} ok Holds K test hook script p shared h f w1 w2 m args1 args2 stack n t u u' a args le hd e o' =
-    cases (hook.entry m args1 stack w1 t) (h m args1 stack n w1 t (subst (λ (c : Counters). c.instructions ≤ n) (sym a.counters) le) hd (shared f m args1 args2 stack w1 w2 a args (has_passed test m args2 stack w2 u u' e o'))) _ refl
+pub migrating_fits : {T U : Type 0} (ok : T → Bool) (fine : U → Bool) (Holds : T → U → List ℕ → Type 0) (K : ℕ → Bool) (hook : Hook T) (look : Hook U) (script : Script) (p : Program) → LooksOn fine look →
+    HookMigrates ok fine Holds K hook look script p → HookFits ok fine Holds everything hook look script p
+migrating_fits {T} {U} ok fine Holds K hook look script p looks h f w1 w2 m args1 args2 stack n t u u' a args le hd e o' =
+    cases (hook.entry m args1 stack w1 t) _ (h f w1 w2 m args1 args2 stack n t u u' a args (subst (λ (c : Counters). c.instructions ≤ n) (sym a.counters) le) hd e o') refl
   where
-    cases : (x : Reply T) → IsMigrated ok Holds K script p n m args1 stack w1 x → (r2 : Ran Bool) → call (entries_pass test) (eval_with (entries_pass test) script p n) script p m args2 stack w2 u ≡ r2 →
-        FitsReply ok as_noted Holds everything (start_at f w1 w2) f n w1.cursors x r2
-    cases (Here t') i r2 er = i
-    cases (Answer e w1' t') i (ran e2 w2' u2) er = λ o o''. let g = i o in (migrated_fits as_noted (entries_pass test) (passing_looks test) K script p f w1 w2 m args1 args2 stack n e w1' u a args le g.0 e2 w2' u2 er o'', g.1)
+    cases : (x : Reply T) (r2 : Ran U) → IsMigrated ok fine Holds K script p n m args1 stack w1 u' x r2 → call look (eval_with look script p n) script p m args2 stack w2 u ≡ r2 → FitsReply ok fine Holds everything (start_at f w1 w2) f n u' w1.cursors x r2
+    cases (Here t') r2 i er = i
+    cases (Answer e1 w1' t') (ran e2 w2' u2) i er = λ o o''. let g = i o o'' in (migrated_fits fine look looks K script p f w1 w2 m args1 args2 stack n e1 w1' u a args le g.0 e2 w2' u2 er o'', g.1)

@@ -11,8 +11,8 @@ use Rattle.cc_meaning_exec.specs.Frames.{Frame, handling, moved, resumed, frame_
 use Rattle.cc_meaning_exec.specs.Exceptions.{End, Returned, Thrown, Stopped, Jammed, Raised, handler_for, overflow}
 use Rattle.cc_meaning_exec.specs.Starts.{Climbed, starting, put_statics, initialiser_of, start_failed, start_refused}
 use Rattle.cc_meaning_exec.specs.Eval.{Ran, ran, Reply, Here, Answer, Hook, Go, caught, thrown, failing, resume, told, as_ran, body_if, body, replied, call, after, told_calls, after_acts, acts_at, Fails, initialised, initialise, valued, valued_in, starts, started, opened_if, opened, turn, eval_with}
-use Rattle.cc_meaning_alike.specs.Acts.{AsksWithin}
-use Rattle.cc_meaning_alike.specs.Ends.{WasRight, StaysRight, Keeps}
+use Rattle.cc_meaning_alike.specs.Acts.{asks_within, AsksWithin}
+use Rattle.cc_meaning_alike.specs.Ends.{WasRight, StaysRight}
 
 -- what was noted before is right where the notes at the end are
 abbrev pub Was : {T : Type 0} → (T → Bool) → T → Ran T → Type 0
@@ -154,8 +154,8 @@ module _ {T : Type 0} (ok : T → Bool) (script : Script) (p : Program) (hook : 
   eval_was (suc n) f w t = turn_was (eval_with hook script p n) (eval_was n) f w.counters.instructions w t
 
 -- then no answer was taken of a class outside K
-pub calls_within : {T : Type 0} (ok : T → Bool) (Holds : T → List ℕ → Type 0) (K : ℕ → Bool) (script : Script) (p : Program) (hook : Hook T) → Keeps ok Holds K hook script p → (ms : List ℕ) (t : T) →
-    IsTrue (ok (told_calls hook ms t)) → AsksWithin K script p ms
+pub calls_within : {T : Type 0} (ok : T → Bool) (K : ℕ → Bool) (script : Script) (p : Program) (hook : Hook T) → StaysRight ok hook → ((m : ℕ) (t : T) → IsTrue (ok (hook.called m t)) → IsTrue (asks_within K script p m)) →
+    (ms : List ℕ) (t : T) → IsTrue (ok (told_calls hook ms t)) → AsksWithin K script p ms
 unfolding told_calls
-calls_within ok Holds K script p hook keeps [] t o = tt
-calls_within ok Holds K script p hook keeps (m ∷ ms) t o = (keeps.asks m t (calls_were ok script p hook keeps.right ms (hook.called m t) o), calls_within ok Holds K script p hook keeps ms (hook.called m t) o)
+calls_within ok K script p hook right asks [] t o = tt
+calls_within ok K script p hook right asks (m ∷ ms) t o = (asks m t (calls_were ok script p hook right ms (hook.called m t) o), calls_within ok K script p hook right asks ms (hook.called m t) o)

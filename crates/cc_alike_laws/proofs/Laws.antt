@@ -48,14 +48,14 @@ nowhere_looks = record {
   here = λ m args stack w u. (u, refl);
 }
 
-pub watch_keeps : (K : ℕ → Bool) (script : Script) (p : Program) → Keeps as_noted no_hold K (watch K script p) script p
+pub watch_keeps : {U : Type 0} (fine : U → Bool) (K : ℕ → Bool) (look : Hook U) (script : Script) (p : Program) → Keeps as_noted fine no_hold K (watch K script p) look script p
 unfolding watch
-watch_keeps K script p = record {
+watch_keeps fine K look script p = record {
   right = record { entry = λ m args stack w t o. o; spent = λ m t o. o; called = λ m t o. and_second (asks_within K script p m) t o; ended = λ m e w t o. o };
   asks = λ m t o. and_first (asks_within K script p m) t o;
-  holds_spent = λ m cursors t o h. tt;
-  holds_acted = λ f w t o h. tt;
-  holds_ended = λ m e w t o h. tt;
+  holds_spent = λ m cursors t u o o' h. tt;
+  holds_acted = λ f w t u o o' h. tt;
+  holds_ended = λ m e1 e2 w1 w2 t u o o' h. tt;
 }
 
 pub watch_fits : {U : Type 0} (fine : U → Bool) (K : ℕ → Bool) (look : Hook U) (script : Script) (p : Program) → HookFits as_noted fine no_hold K (watch K script p) look script p
@@ -63,7 +63,7 @@ unfolding watch
 watch_fits fine K look script p f w1 w2 m args1 args2 stack n t u u' a vs le h e o' = λ o. tt
 
 pub renaming_and_locality : (K : ℕ → Bool) (script : Script) (p : Program) → RenamingAndLocality K script p
-renaming_and_locality K script p = faithful as_noted no_notes no_hold K (watch K script p) nowhere script p (watch_keeps K script p) nowhere_looks (watch_fits no_notes K nowhere script p)
+renaming_and_locality K script p = faithful as_noted no_notes no_hold K (watch K script p) nowhere script p (watch_keeps no_notes K nowhere script p) nowhere_looks (watch_fits no_notes K nowhere script p)
 
 -- ---- where all cursors agree, any answer may be taken
 
@@ -76,22 +76,22 @@ any_within script p m = by (is_stateful script p m)
     by false = refl
 
 -- a hook that looks on keeps all that it has to
-pub looking_keeps : {T : Type 0} (ok : T → Bool) (look : Hook T) (script : Script) (p : Program) → LooksOn ok look → Keeps ok no_hold everything look script p
-looking_keeps ok look script p looks = record {
+pub looking_keeps : {T U : Type 0} (ok : T → Bool) (fine : U → Bool) (look : Hook T) (other : Hook U) (script : Script) (p : Program) → LooksOn ok look → Keeps ok fine no_hold everything look other script p
+looking_keeps ok fine look other script p looks = record {
   right = looks.right;
   asks = λ m t o. any_within script p m;
-  holds_spent = λ m cursors t o h. tt;
-  holds_acted = λ f w t o h. tt;
-  holds_ended = λ m e w t o h. tt;
+  holds_spent = λ m cursors t u o o' h. tt;
+  holds_acted = λ f w t u o o' h. tt;
+  holds_ended = λ m e1 e2 w1 w2 t u o o' h. tt;
 }
 
 pub looking_fits : {T U : Type 0} (ok : T → Bool) (fine : U → Bool) (look : Hook T) (other : Hook U) (script : Script) (p : Program) → LooksOn ok look → HookFits ok fine no_hold everything look other script p
 looking_fits ok fine look other script p looks f w1 w2 m args1 args2 stack n t u u' a vs le h e o' =
     let here = looks.here m args1 stack w1 t in
-    subst (λ x. FitsReply ok fine no_hold everything (start_at f w1 w2) f n w1.cursors x (call other (eval_with other script p n) script p m args2 stack w2 u)) (sym here.1) (λ o. tt)
+    subst (λ x. FitsReply ok fine no_hold everything (start_at f w1 w2) f n u' w1.cursors x (call other (eval_with other script p n) script p m args2 stack w2 u)) (sym here.1) (λ o. tt)
 
 pub whole_renaming : (script : Script) (p : Program) → WholeRenaming script p
-whole_renaming script p = faithful no_notes no_notes no_hold everything nowhere nowhere script p (looking_keeps no_notes nowhere script p nowhere_looks) nowhere_looks (looking_fits no_notes no_notes nowhere nowhere script p nowhere_looks)
+whole_renaming script p = faithful no_notes no_notes no_hold everything nowhere nowhere script p (looking_keeps no_notes no_notes nowhere nowhere script p nowhere_looks) nowhere_looks (looking_fits no_notes no_notes nowhere nowhere script p nowhere_looks)
 
 -- ---- the opening world
 

@@ -164,7 +164,7 @@ report_same limits w1 w2 None e c = refl
 report_same limits w1 w2 (Some x) e c = rw (e, c) refl
 
 -- where both began in one world, alike ends have one report
-ran_same : {T U : Type 0} (ok : T → Bool) (fine : U → Bool) (Holds : T → List ℕ → Type 0) (K : ℕ → Bool) (limits : Limits) (f : Map) (w : World) (n : ℕ) (r1 : Ran T) (r2 : Ran U) → AlikeRan ok fine Holds K (start_at f w w) f n r1 r2 →
+ran_same : {T U : Type 0} (ok : T → Bool) (fine : U → Bool) (Holds : T → U → List ℕ → Type 0) (K : ℕ → Bool) (limits : Limits) (f : Map) (w : World) (n : ℕ) (r1 : Ran T) (r2 : Ran U) → AlikeRan ok fine Holds K (start_at f w w) f n r1 r2 →
     IsTrue (ok (kept_of r1)) → IsTrue (fine (kept_of r2)) → report_of limits r1 ≡ report_of limits r2
 unfolding report_of kept_of
 ran_same ok fine Holds K limits f w n (ran e1 w1 t1) (ran e2 w2 u2) h o o' =
@@ -175,8 +175,8 @@ ran_same ok fine Holds K limits f w n (ran e1 w1 t1) (ran e2 w2 u2) h o o' =
 then_run : {T : Type 0} → Hook T → Script → Program → List (List ℕ) → Limits → Option ℕ → T → Ran T
 then_run hook script p ts limits x t = begun_in hook script p limits.instructions (raised_by (pay x (opening_world p limits) (made_in p ts))) t
 
-module _ {T U : Type 0} (ok : T → Bool) (fine : U → Bool) (Holds : T → List ℕ → Type 0) (K : ℕ → Bool) (hook : Hook T) (look : Hook U) (script : Script) (p : Program)
-    (keeps : Keeps ok Holds K hook script p) (looks : LooksOn fine look) (fits : HookFits ok fine Holds K hook look script p) (ts : List (List ℕ)) (limits : Limits) (t : T) (u : U) (hd : Holds t (opening_world p limits).cursors) where
+module _ {T U : Type 0} (ok : T → Bool) (fine : U → Bool) (Holds : T → U → List ℕ → Type 0) (K : ℕ → Bool) (hook : Hook T) (look : Hook U) (script : Script) (p : Program)
+    (keeps : Keeps ok fine Holds K hook look script p) (looks : LooksOn fine look) (fits : HookFits ok fine Holds K hook look script p) (ts : List (List ℕ)) (limits : Limits) (t : T) (u : U) (hd : Holds t u (opening_world p limits).cursors) where
   begun_same : (x : Option ℕ) → IsTrue (ok (kept_of (then_run hook script p ts limits x t))) → IsTrue (fine (kept_of (then_run look script p ts limits x u))) →
       report_of limits (then_run hook script p ts limits x t) ≡ report_of limits (then_run look script p ts limits x u)
   unfolding then_run begun_in begun raised_by end_of pay arrived made_in report_of world_then opening_world with_objects with_words
@@ -197,7 +197,7 @@ module _ {T U : Type 0} (ok : T → Bool) (fine : U → Bool) (Holds : T → Lis
 looked_on_same : {T : Type 0} (look : Hook T) (script : Script) (p : Program) (ts : List (List ℕ)) (limits : Limits) (t : T) → LooksOn (λ (t : T). true) look →
     report_of limits (run_with look script p ts limits t) ≡ report_of limits (run_with nowhere script p ts limits tt)
 looked_on_same {T} look script p ts limits t looks =
-    run_same (λ (t : T). true) no_notes no_hold everything look nowhere script p (looking_keeps (λ (t : T). true) look script p looks) nowhere_looks (looking_fits (λ (t : T). true) no_notes look nowhere script p looks) ts limits t tt tt refl refl
+    run_same (λ (t : T). true) no_notes no_hold everything look nowhere script p (looking_keeps (λ (t : T). true) no_notes look nowhere script p looks) nowhere_looks (looking_fits (λ (t : T). true) no_notes look nowhere script p looks) ts limits t tt tt refl refl
 
 onlooker_looks : (p : Program) → LooksOn (λ (t : Invocations). true) (onlooker p.main)
 unfolding onlooker
@@ -221,7 +221,7 @@ local_same : (script : Script) (p : Program) (ts : List (List ℕ)) (limits : Li
 unfolding local onlooked
 local_same script p ts limits = looked_on_same (onlooker p.main) script p ts limits (opening_invocations p.main) (onlooker_looks p)
 
-pub report_is_local : {T U : Type 0} (ok : T → Bool) (fine : U → Bool) (Holds : T → List ℕ → Type 0) (K : ℕ → Bool) (hook : Hook T) (look : Hook U) (script : Script) (p : Program) → Keeps ok Holds K hook script p → LooksOn fine look →
+pub report_is_local : {T U : Type 0} (ok : T → Bool) (fine : U → Bool) (Holds : T → U → List ℕ → Type 0) (K : ℕ → Bool) (hook : Hook T) (look : Hook U) (script : Script) (p : Program) → Keeps ok fine Holds K hook look script p → LooksOn fine look →
     HookFits ok fine Holds K hook look script p → ReportIsLocal ok fine Holds hook look script p
 report_is_local ok fine Holds K hook look script p keeps looks fits ts limits t u hd o o' =
     run_same ok fine Holds K hook look script p keeps looks fits ts limits t u hd o o' ∙ looked_on_same look script p ts limits u (always_looks fine look looks) ∙ sym (local_same script p ts limits)

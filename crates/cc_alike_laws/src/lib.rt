@@ -4,12 +4,10 @@
 ghost use Rattle.std.specs.Prelude.{ℕ, Bool, List};
 ghost use Rattle.cc_meaning.specs.declared.program.Program.{Program};
 ghost use Rattle.cc_meaning.specs.declared.script.Script.{Script};
-ghost use Rattle.cc_meaning.specs.declared.value.Value.{Value};
-ghost use Rattle.cc_meaning_world.specs.World.{World, Stack};
 ghost use Rattle.cc_meaning_exec.specs.Eval.{Hook};
 ghost use Rattle.cc_meaning_alike.specs.Ends.{Keeps, LooksOn, HookFits};
-ghost use Rattle.cc_meaning_alike.specs.Laws.{RunsAreAlike, InstructionsAreAlike, BuiltInCallsAreAlike, OpeningIsAlike, held, everything, as_noted, HookIsFaithful, CallIsFaithful, MainIsFaithful, ReportIsLocal, RenamingAndLocality, WholeRenaming};
-ghost use Rattle.cc_meaning_alike.specs.Migration.{entries_pass, IsOfNoNumber, HookMigrates};
+ghost use Rattle.cc_meaning_alike.specs.Laws.{RunsAreAlike, InstructionsAreAlike, BuiltInCallsAreAlike, OpeningIsAlike, held, everything, HookIsFaithful, CallIsFaithful, MainIsFaithful, ReportIsLocal, RenamingAndLocality, WholeRenaming};
+ghost use Rattle.cc_meaning_alike.specs.Migration.{HookMigrates};
 
 /// Alike acts, done in worlds that are alike, lead to alike outcomes in worlds that are alike.
 pub fn acts_keep_worlds_alike()
@@ -44,32 +42,32 @@ pub fn whole_renaming()
 /// A hook whose answers are right changes nothing.
 #[tactic(auto, using(crate::proofs::Evals::faithful))]
 pub fn right_answers_change_nothing<T, U>()
-    ensures { (ok : T → Bool) (fine : U → Bool) (holds : T → List ℕ → Bool) (K : ℕ → Bool) (hook : Hook T) (look : Hook U) (script : Script) (p : Program) → Keeps ok (held holds) K hook script p → LooksOn fine look → HookFits ok fine (held holds) K hook look script p → HookIsFaithful ok fine (held holds) K hook look script p }
+    ensures { (ok : T → Bool) (fine : U → Bool) (holds : T → U → List ℕ → Bool) (K : ℕ → Bool) (hook : Hook T) (look : Hook U) (script : Script) (p : Program) → Keeps ok fine (held holds) K hook look script p → LooksOn fine look → HookFits ok fine (held holds) K hook look script p → HookIsFaithful ok fine (held holds) K hook look script p }
 {}
 
 /// The same from the call of a method on.
 #[tactic(auto, using(crate::proofs::Evals::call_faithful))]
 pub fn right_answers_change_no_call<T, U>()
-    ensures { (ok : T → Bool) (fine : U → Bool) (holds : T → List ℕ → Bool) (K : ℕ → Bool) (hook : Hook T) (look : Hook U) (script : Script) (p : Program) → Keeps ok (held holds) K hook script p → LooksOn fine look → HookFits ok fine (held holds) K hook look script p → CallIsFaithful ok fine (held holds) K hook look script p }
+    ensures { (ok : T → Bool) (fine : U → Bool) (holds : T → U → List ℕ → Bool) (K : ℕ → Bool) (hook : Hook T) (look : Hook U) (script : Script) (p : Program) → Keeps ok fine (held holds) K hook look script p → LooksOn fine look → HookFits ok fine (held holds) K hook look script p → CallIsFaithful ok fine (held holds) K hook look script p }
 {}
 
 /// The same from the start of the class of `main` on.
 #[tactic(auto, using(crate::proofs::Evals::main_faithful))]
 pub fn right_answers_change_no_main<T, U>()
-    ensures { (ok : T → Bool) (fine : U → Bool) (holds : T → List ℕ → Bool) (K : ℕ → Bool) (hook : Hook T) (look : Hook U) (script : Script) (p : Program) → Keeps ok (held holds) K hook script p → LooksOn fine look → HookFits ok fine (held holds) K hook look script p → MainIsFaithful ok fine (held holds) K hook look script p }
+    ensures { (ok : T → Bool) (fine : U → Bool) (holds : T → U → List ℕ → Bool) (K : ℕ → Bool) (hook : Hook T) (look : Hook U) (script : Script) (p : Program) → Keeps ok fine (held holds) K hook look script p → LooksOn fine look → HookFits ok fine (held holds) K hook look script p → MainIsFaithful ok fine (held holds) K hook look script p }
 {}
 
 /// The report of a whole run with such a hook is that of the run on one heap.
 pub fn right_answers_change_no_report<T, U>()
-    ensures { (ok : T → Bool) (fine : U → Bool) (holds : T → List ℕ → Bool) (K : ℕ → Bool) (hook : Hook T) (look : Hook U) (script : Script) (p : Program) → Keeps ok (held holds) K hook script p → LooksOn fine look → HookFits ok fine (held holds) K hook look script p → ReportIsLocal ok fine (held holds) hook look script p }
+    ensures { (ok : T → Bool) (fine : U → Bool) (holds : T → U → List ℕ → Bool) (K : ℕ → Bool) (hook : Hook T) (look : Hook U) (script : Script) (p : Program) → Keeps ok fine (held holds) K hook look script p → LooksOn fine look → HookFits ok fine (held holds) K hook look script p → ReportIsLocal ok fine (held holds) hook look script p }
 {}
 
 /// A hook that captures a call, has it evaluated in another world with answers of classes in `K` alone, whose cursors agree, and merges the outcome, changes nothing.
-pub fn migrated_calls_change_nothing<T>()
-    ensures { (ok : T → Bool) (holds : T → List ℕ → Bool) (K : ℕ → Bool) (test : ℕ → List Value → Stack → World → Bool) (hook : Hook T) (script : Script) (p : Program) → Keeps ok (held holds) everything hook script p → IsOfNoNumber test → HookMigrates ok (held holds) K test hook script p → HookIsFaithful ok as_noted (held holds) everything hook (entries_pass test) script p }
+pub fn migrated_calls_change_nothing<T, U>()
+    ensures { (ok : T → Bool) (fine : U → Bool) (holds : T → U → List ℕ → Bool) (K : ℕ → Bool) (hook : Hook T) (look : Hook U) (script : Script) (p : Program) → Keeps ok fine (held holds) everything hook look script p → LooksOn fine look → HookMigrates ok fine (held holds) K hook look script p → HookIsFaithful ok fine (held holds) everything hook look script p }
 {}
 
 /// And it changes no report of a whole run.
-pub fn migrated_calls_change_no_report<T>()
-    ensures { (ok : T → Bool) (holds : T → List ℕ → Bool) (K : ℕ → Bool) (test : ℕ → List Value → Stack → World → Bool) (hook : Hook T) (script : Script) (p : Program) → Keeps ok (held holds) everything hook script p → IsOfNoNumber test → HookMigrates ok (held holds) K test hook script p → ReportIsLocal ok as_noted (held holds) hook (entries_pass test) script p }
+pub fn migrated_calls_change_no_report<T, U>()
+    ensures { (ok : T → Bool) (fine : U → Bool) (holds : T → U → List ℕ → Bool) (K : ℕ → Bool) (hook : Hook T) (look : Hook U) (script : Script) (p : Program) → Keeps ok fine (held holds) everything hook look script p → LooksOn fine look → HookMigrates ok fine (held holds) K hook look script p → ReportIsLocal ok fine (held holds) hook look script p }
 {}

@@ -38,32 +38,32 @@ OpeningIsAlike = (K : ℕ → Bool) (p : Program) (limits : Limits) → Alike K 
 
 -- ---- methods
 
--- what a test says of what a hook keeps and the cursors of its side
-abbrev pub held : {T : Type 0} → (T → List ℕ → Bool) → T → List ℕ → Type 0
-held holds t cursors = IsTrue (holds t cursors)
+-- what a test says of both notes and of cursors
+abbrev pub held : {T U : Type 0} → (T → U → List ℕ → Bool) → T → U → List ℕ → Type 0
+held holds t u cursors = IsTrue (holds t u cursors)
 
 -- from worlds that are alike, a hook leads to what a hook that looks on leads to on the other side
-abbrev pub HookIsFaithful : {T U : Type 0} → (T → Bool) → (U → Bool) → (T → List ℕ → Type 0) → (ℕ → Bool) → Hook T → Hook U → Script → Program → Type 0
+abbrev pub HookIsFaithful : {T U : Type 0} → (T → Bool) → (U → Bool) → (T → U → List ℕ → Type 0) → (ℕ → Bool) → Hook T → Hook U → Script → Program → Type 0
 HookIsFaithful {T} {U} ok fine Holds K hook look script p =
-    (f : Map) (n m pc : ℕ) (stack : Stack) (l1 l2 : Locals) (w1 w2 : World) (t : T) (u : U) → Alike K f w1 w2 → AlikeLocals f l1 l2 → w2.counters.instructions ≤ n → Holds t w1.cursors →
+    (f : Map) (n m pc : ℕ) (stack : Stack) (l1 l2 : Locals) (w1 w2 : World) (t : T) (u : U) → Alike K f w1 w2 → AlikeLocals f l1 l2 → w2.counters.instructions ≤ n → Holds t u w1.cursors →
     AlikeRan ok fine Holds K (start_at f w1 w2) f n (eval_with hook script p n (frame_at m pc stack l1) w1 t) (eval_with look script p n (frame_at m pc stack l2) w2 u)
 
 -- the same from the call of a method on
-abbrev pub CallIsFaithful : {T U : Type 0} → (T → Bool) → (U → Bool) → (T → List ℕ → Type 0) → (ℕ → Bool) → Hook T → Hook U → Script → Program → Type 0
+abbrev pub CallIsFaithful : {T U : Type 0} → (T → Bool) → (U → Bool) → (T → U → List ℕ → Type 0) → (ℕ → Bool) → Hook T → Hook U → Script → Program → Type 0
 CallIsFaithful {T} {U} ok fine Holds K hook look script p =
-    (f : Map) (n m : ℕ) (args1 args2 : List Value) (stack : Stack) (w1 w2 : World) (t : T) (u : U) → Alike K f w1 w2 → Each (AlikeValue f) args1 args2 → w2.counters.instructions ≤ n → Holds t w1.cursors →
+    (f : Map) (n m : ℕ) (args1 args2 : List Value) (stack : Stack) (w1 w2 : World) (t : T) (u : U) → Alike K f w1 w2 → Each (AlikeValue f) args1 args2 → w2.counters.instructions ≤ n → Holds t u w1.cursors →
     AlikeRan ok fine Holds K (start_at f w1 w2) f n (call hook (eval_with hook script p n) script p m args1 stack w1 t) (call look (eval_with look script p n) script p m args2 stack w2 u)
 
 -- the same from the start of the class of `main` on
-abbrev pub MainIsFaithful : {T U : Type 0} → (T → Bool) → (U → Bool) → (T → List ℕ → Type 0) → (ℕ → Bool) → Hook T → Hook U → Script → Program → Type 0
+abbrev pub MainIsFaithful : {T U : Type 0} → (T → Bool) → (U → Bool) → (T → U → List ℕ → Type 0) → (ℕ → Bool) → Hook T → Hook U → Script → Program → Type 0
 MainIsFaithful {T} {U} ok fine Holds K hook look script p =
-    (f : Map) (n : ℕ) (args1 args2 : List Value) (w1 w2 : World) (t : T) (u : U) → Alike K f w1 w2 → Each (AlikeValue f) args1 args2 → w2.counters.instructions ≤ n → Holds t w1.cursors →
+    (f : Map) (n : ℕ) (args1 args2 : List Value) (w1 w2 : World) (t : T) (u : U) → Alike K f w1 w2 → Each (AlikeValue f) args1 args2 → w2.counters.instructions ≤ n → Holds t u w1.cursors →
     AlikeRan ok fine Holds K (start_at f w1 w2) f n (run_main hook script p n args1 w1 t) (run_main look script p n args2 w2 u)
 
 -- A whole run with a hook gives the report of the run on one heap, where what the hook has noted at its end is right, and so is what one that looks on has noted of the
 -- run on one heap.
-abbrev pub ReportIsLocal : {T U : Type 0} → (T → Bool) → (U → Bool) → (T → List ℕ → Type 0) → Hook T → Hook U → Script → Program → Type 0
-ReportIsLocal {T} {U} ok fine Holds hook look script p = (texts : List (List ℕ)) (limits : Limits) (t : T) (u : U) → Holds t (opening_world p limits).cursors →
+abbrev pub ReportIsLocal : {T U : Type 0} → (T → Bool) → (U → Bool) → (T → U → List ℕ → Type 0) → Hook T → Hook U → Script → Program → Type 0
+ReportIsLocal {T} {U} ok fine Holds hook look script p = (texts : List (List ℕ)) (limits : Limits) (t : T) (u : U) → Holds t u (opening_world p limits).cursors →
     IsTrue (ok (kept_of (run_with hook script p texts limits t))) → IsTrue (fine (kept_of (run_with look script p texts limits u))) →
     report_of limits (run_with hook script p texts limits t) ≡ local script p texts limits
 
@@ -73,8 +73,8 @@ ReportIsLocal {T} {U} ok fine Holds hook look script p = (texts : List (List ℕ
 abbrev pub no_notes : Unit {0} → Bool
 no_notes u = true
 
-abbrev pub no_hold : {T : Type 0} → T → List ℕ → Type 0
-no_hold t cursors = Unit {0}
+abbrev pub no_hold : {T U : Type 0} → T → U → List ℕ → Type 0
+no_hold t u cursors = Unit {0}
 
 abbrev pub everything : ℕ → Bool
 everything class = true
