@@ -124,7 +124,7 @@ module _ {T U : Type 0} (ok : T → Bool) (fine : U → Bool) (Holds : T → U �
   module _ (n : ℕ) (go1 : Go T) (go2 : Go U) (was1 : GoWas ok go1) (was2 : GoWas fine go2)
       (ih : (f : Map) (w1 w2 : World) (m pc : ℕ) (stack : Stack) (l1 l2 : Locals) (t : T) (u : U) → Good f t u w1 w2 → AlikeLocals f l1 l2 → w2.counters.instructions ≤ n → Rel f n (go1 (frame_at m pc stack l1) w1 t) (go2 (frame_at m pc stack l2) w2 u))
       (fits : (f : Map) (w1 w2 : World) (m : ℕ) (args1 args2 : List Value) (stack : Stack) (t : T) (u u' : U) → Good f t u w1 w2 → Each (AlikeValue f) args1 args2 → w2.counters.instructions ≤ n → look.entry m args2 stack w2 u ≡ Here u' → IsTrue (fine u') →
-          FitsReply ok fine Holds K s f n u' w1.cursors (hook.entry m args1 stack w1 t) (call look go2 script p m args2 stack w2 u)) where
+      FitsReply ok fine Holds K s f n u' w1.cursors (hook.entry m args1 stack w1 t) (call look go2 script p m args2 stack w2 u)) where
     -- ---- handlers
 
     caught_alike : (f : Map) (w1 w2 : World) (m pc : ℕ) (stack : Stack) (l1 l2 : Locals) (a b : ℕ) (x : Option ℕ) (t : T) (u : U) → Good f t u w1 w2 → AlikeLocals f l1 l2 → In f a b → w2.counters.instructions ≤ n →
@@ -273,7 +273,7 @@ module _ {T U : Type 0} (ok : T → Bool) (fine : U → Bool) (Holds : T → U �
           (λ w' t'. starts_was ok script p hook keeps.right go1 was1 stack fail1 fail_was1 further1 fw1 cs w' t')
           (λ w' u'. starts_was fine script p look looks.right go2 was2 stack fail2 fail_was2 further2 fw2 cs w' u')
           (λ h v1 v2 t' u' e q' le'. starts_alike h v1 v2 further1 further2 cs t' u' (λ h' x1 x2 t'' u'' c1 c2 e'. fails h' x1 x2 t'' u'' c1 c2 (λ a b i. e' a b (e a b (r.extends a b i)))) fw1 fw2
-              (λ h' x1 x2 t'' u'' e'. k h' x1 x2 t'' u'' (λ a b i. e' a b (e a b (r.extends a b i)))) q' le')
+          (λ h' x1 x2 t'' u'' e'. k h' x1 x2 t'' u'' (λ a b i. e' a b (e a b (r.extends a b i)))) q' le')
           r.ends (stayed f n t u w1.cursors _ _ r q.1) r.within)
 
     started_alike : (f : Map) (m pc : ℕ) (stack : Stack) (l1 l2 : Locals) (cs : List ℕ) → AlikeLocals f l1 l2 →
