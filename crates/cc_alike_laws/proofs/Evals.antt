@@ -5,14 +5,14 @@ use Rattle.cc_meaning.specs.declared.program.Program.{Program}
 use Rattle.cc_meaning.specs.declared.script.Script.{Script}
 use Rattle.cc_meaning.specs.declared.value.Cell.TheVariants as cell
 use Rattle.cc_meaning.specs.declared.value.Value.{Value}
-use Rattle.cc_meaning_world.specs.World.{World, Stack, Locals, Counters}
+use Rattle.cc_meaning_world.specs.World.{World, Stack, Locals}
 use Rattle.cc_meaning_world.specs.Changes.{with_instructions, with_status, with_statuses}
 use Rattle.cc_meaning_world.specs.Acts.{Outcome, run_act}
 use Rattle.cc_meaning_exec.specs.Instructions.{insn_of_method, act_at}
 use Rattle.cc_meaning_exec.specs.Frames.{cells_of, registers_of, locals_for, frame_for, room_for, no_frames}
-use Rattle.cc_meaning_exec.specs.Exceptions.{End, Raised, catches_in, handler_of, handler_for, overflow}
+use Rattle.cc_meaning_exec.specs.Exceptions.{End, Raised, catches_in, handler_of, handler_for}
 use Rattle.cc_meaning_exec.specs.Instructions.{code_of}
-use Rattle.cc_meaning_exec.specs.Starts.{ready, class_needed, class_of_main, Climbed, climb_from, starting, put_statics, initialiser_of, start_failed, start_refused}
+use Rattle.cc_meaning_exec.specs.Starts.{ready, class_needed, class_of_main, Climbed, climb_from, starting, initialiser_of}
 use Rattle.cc_meaning_exec.specs.Eval.{Ran, ran, Reply, Here, Answer, Hook, Go, caught, thrown, failing, resume, told, as_ran, body_if, body, replied, call, after, told_calls, after_acts, acts_at, Fails, initialised, initialise, valued, valued_in, starts, started, opened_if, opened, turn, eval_with}
 use Rattle.cc_meaning_exec.specs.Runs.{launched, run_main}
 use Rattle.cc_meaning_alike.specs.Maps.{Map, In, Extends}

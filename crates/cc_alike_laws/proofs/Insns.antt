@@ -1,5 +1,5 @@
 -- Each instruction's act is alike itself, from alike registers.
-use Rattle.std.proofs.Common.{◌≡◌, ℕ, suc, ℤ, pos, Bool, true, false, cond, List, [], ◌∷◌, length, Option, Some, None, refl, sym, ap, ◌∙◌, subst, slice_get}
+use Rattle.std.proofs.Common.{◌≡◌, ℕ, suc, ℤ, true, List, [], ◌∷◌, length, Option, Some, None, refl, ap, ◌∙◌, slice_get}
 use Rattle.std.specs.Prelude.{nat_le, map}
 use Rattle.std.specs.Int.{w32, w64}
 use Rattle.cc_meaning.specs.declared.instruction.How.{How}
@@ -31,9 +31,9 @@ use Rattle.cc_meaning_world.specs.Acts.{Act}
 use Rattle.cc_meaning_rows.specs.Rows.{built_in}
 use Rattle.cc_meaning_exec.specs.Registers.{cell_at}
 use Rattle.cc_meaning_exec.specs.Numbers.{operated, operated_as, or_divided_by_zero}
-use Rattle.cc_meaning_exec.specs.Arrays.{element_type_of, or_out_of_bounds, size_of, zero_elements, element_value, fill, fill_with, chosen, switch_to}
+use Rattle.cc_meaning_exec.specs.Arrays.{or_out_of_bounds, zero_elements, element_value, fill, fill_with, chosen, switch_to}
 use Rattle.cc_meaning_exec.specs.Dispatch.{dispatch, dispatch_above, enter_kind, enter, enter_found, answers_to, if_answers, call_on, invoke_how, invoke}
-use Rattle.cc_meaning_exec.specs.Instructions.{make_of, cast_to, is_instance, make_array, move_int, move_reference, data_for, act_of, code_of, own_class, act_placed, act_in, act_at}
+use Rattle.cc_meaning_exec.specs.Instructions.{make_of, cast_to, is_instance, make_array, move_int, move_reference, data_for, act_of, code_of, act_placed, act_in, act_at}
 use Rattle.cc_meaning_alike.specs.Maps.{Map, In, Extends, OneToOne}
 use Rattle.cc_meaning_alike.specs.Worlds.{Each, nil, each, Both, neither, both, AlikeReference, nulls, linked, AlikeValue, ints, longs, refs, arrays, AlikeLocals}
 use Rattle.cc_meaning_alike.specs.Acts.{enters, returns, throws, stuck, AlikeAct, done, make, look, class_of, puts, get_static, put_static, literal, class_constant, ask}

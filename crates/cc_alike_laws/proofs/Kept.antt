@@ -5,11 +5,11 @@ use Rattle.cc_meaning.specs.declared.program.Program.{Program}
 use Rattle.cc_meaning.specs.declared.script.Script.{Script}
 use Rattle.cc_meaning.specs.declared.value.Value.{Value}
 use Rattle.cc_meaning_world.specs.World.{World, Stack}
-use Rattle.cc_meaning_world.specs.Changes.{with_instructions, with_status, with_statuses}
+use Rattle.cc_meaning_world.specs.Changes.{with_instructions}
 use Rattle.cc_meaning_world.specs.Acts.{Outcome, Next, Enter, Returns, Throws, Stops, Stuck, Reached}
 use Rattle.cc_meaning_exec.specs.Frames.{Frame, handling, moved, resumed, frame_for, room_for}
 use Rattle.cc_meaning_exec.specs.Exceptions.{End, Returned, Thrown, Stopped, Jammed, Raised, handler_for, overflow}
-use Rattle.cc_meaning_exec.specs.Starts.{Climbed, starting, put_statics, initialiser_of, start_failed, start_refused}
+use Rattle.cc_meaning_exec.specs.Starts.{Climbed, starting, put_statics, initialiser_of}
 use Rattle.cc_meaning_exec.specs.Eval.{Ran, ran, Reply, Here, Answer, Hook, Go, caught, thrown, failing, resume, told, as_ran, body_if, body, replied, call, after, told_calls, after_acts, acts_at, Fails, initialised, initialise, valued, valued_in, starts, started, opened_if, opened, turn, eval_with}
 use Rattle.cc_meaning_alike.specs.Acts.{asks_within, AsksWithin}
 use Rattle.cc_meaning_alike.specs.Ends.{WasRight, StaysRight}

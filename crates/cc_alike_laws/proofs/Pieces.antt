@@ -18,7 +18,6 @@ use Rattle.cc_meaning.specs.declared.value.Value.{Value}
 use Rattle.cc_meaning.specs.declared.value.Value.TheVariants as value
 use Rattle.cc_meaning.specs.BuiltIn.{null_pointer_exception_name, array_store_exception_name}
 use Rattle.cc_meaning.specs.Kinds.{kind_of}
-use Rattle.cc_meaning.specs.Lookup.{class_named}
 use Rattle.cc_meaning_world.specs.World.{Locals}
 use Rattle.cc_meaning_world.specs.Layouts.{slot}
 use Rattle.cc_meaning_world.specs.Casts.{passes}

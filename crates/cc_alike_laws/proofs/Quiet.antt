@@ -1,5 +1,5 @@
 -- What acts leave as it was: the instructions left; and acts that attempt no call and leave the cursors.
-use Rattle.std.proofs.Common.{◌≡◌, ℕ, Bool, List, [], ◌∷◌, length, Option, Some, None, refl, sym, subst, slice_get}
+use Rattle.std.proofs.Common.{◌≡◌, ℕ, Bool, List, [], ◌∷◌, length, Option, Some, None, refl, sym, subst}
 use Rattle.cc_meaning.specs.declared.program.Program.{Program}
 use Rattle.cc_meaning.specs.declared.program.StaticValue.{StaticValue}
 use Rattle.cc_meaning.specs.declared.program.StaticValue.TheVariants as static

@@ -1,5 +1,5 @@
 -- New exceptions, the static values of a class and starts that fail, from worlds that are alike.
-use Rattle.std.proofs.Common.{◌≡◌, ℕ, ◌≤◌, Bool, true, false, List, [], ◌∷◌, length, Option, Some, None, refl, sym, ap, ◌∙◌, subst, arith, slice_get}
+use Rattle.std.proofs.Common.{◌≡◌, ℕ, ◌≤◌, Bool, true, false, List, [], ◌∷◌, length, Option, refl, sym, ap, subst, arith, slice_get}
 use Rattle.cc_meaning.specs.declared.program.Catch.{Catch}
 use Rattle.cc_meaning.specs.declared.program.Program.{Program}
 use Rattle.cc_meaning.specs.declared.program.StaticValue.{StaticValue}
@@ -9,8 +9,8 @@ use Rattle.cc_meaning.specs.declared.value.Object.{Object}
 use Rattle.cc_meaning.specs.BuiltIn.{stack_overflow_error_name, exception_in_initializer_error_name, no_class_def_found_error_name}
 use Rattle.cc_meaning_world.specs.World.{World, Counters}
 use Rattle.cc_meaning_world.specs.Changes.{with_status, with_statuses}
-use Rattle.cc_meaning_world.specs.Acts.{Outcome, Act, Reached, run_act}
-use Rattle.cc_meaning_exec.specs.Exceptions.{End, Thrown, Raised, end_of, raised_by, new_exception, overflow, handler_of}
+use Rattle.cc_meaning_world.specs.Acts.{Outcome, Act, run_act}
+use Rattle.cc_meaning_exec.specs.Exceptions.{End, Raised, end_of, raised_by, new_exception, overflow, handler_of}
 use Rattle.cc_meaning_exec.specs.Starts.{failed, climb_up, climb_from, put_values, values_act, put_statics, with_failed, failed_with, all_fail, is_error_in, wrapped_if, wrapped, start_failed, start_refused}
 use Rattle.cc_meaning_alike.specs.Maps.{Map, In, Extends}
 use Rattle.cc_meaning_alike.specs.Worlds.{nulls, linked, ints, longs, refs, neither, BothObjects, two, Start, Pair}

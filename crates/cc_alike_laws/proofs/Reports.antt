@@ -1,32 +1,29 @@
 -- Whole runs: they begin in one world on both sides, and what ends alike there has one report.
-use Rattle.std.proofs.Common.{◌≡◌, ◌⊎◌, inl, inr, ℕ, zero, suc, ◌+◌, ◌<◌, ◌≤◌, Bool, true, false, cond, List, [], ◌∷◌, ◌++◌, length, Option, Some, None, refl, sym, ap, ◌∙◌, subst, ⊎_elim, arith, slice_get, length-append}
-use Rattle.std.specs.Prelude.{IsTrue, map, option_map, sum_by}
+use Rattle.std.proofs.Common.{◌≡◌, ℕ, zero, suc, ◌+◌, ◌<◌, ◌≤◌, Bool, true, List, [], ◌∷◌, length, Option, Some, None, refl, sym, ap, ◌∙◌, subst, ⊎_elim, arith, slice_get, length-append}
+use Rattle.std.specs.Prelude.{IsTrue, map, option_map}
 use native.Mathlib.Decide.{ℕ_discrete}
 use Rattle.cc_meaning.specs.declared.program.Program.{Program}
 use Rattle.cc_meaning.specs.declared.report.Ending.{Ending}
 use Rattle.cc_meaning.specs.declared.report.Ending.TheVariants as ending
-use Rattle.cc_meaning.specs.declared.report.Event.{Event}
 use Rattle.cc_meaning.specs.declared.report.Limits.{Limits}
-use Rattle.cc_meaning.specs.declared.report.Report.{Report}
 use Rattle.cc_meaning.specs.declared.script.Script.{Script}
 use Rattle.cc_meaning.specs.declared.value.Object.{Object}
 use Rattle.cc_meaning.specs.declared.value.Object.TheVariants as object
 use Rattle.cc_meaning.specs.declared.value.Value.{Value}
 use Rattle.cc_meaning.specs.declared.value.Value.TheVariants as value
-use Rattle.cc_meaning.specs.Words.{words_of}
-use Rattle.cc_meaning_world.specs.World.{World, Counters}
-use Rattle.cc_meaning_world.specs.Changes.{less_by, with_words, with_objects}
+use Rattle.cc_meaning_world.specs.World.{World}
+use Rattle.cc_meaning_world.specs.Changes.{with_words, with_objects}
 use Rattle.cc_meaning_world.specs.Opening.{out_object, opening_world, texts_class, numbered, argument_objects, with_arguments}
 use Rattle.cc_meaning_world.specs.Acts.{Reached, Returns, arrived, pay, paying}
-use Rattle.cc_meaning_exec.specs.Exceptions.{End, Returned, Thrown, Stopped, Jammed, Raised, end_of, raised_by}
+use Rattle.cc_meaning_exec.specs.Exceptions.{End, end_of, raised_by}
 use Rattle.cc_meaning_exec.specs.Eval.{Ran, ran, Reply, Here, Answer, Hook}
-use Rattle.cc_meaning_exec.specs.Runs.{run_main, begun, begun_in, with_made_arguments, run_with, entered, onlooker, opening_invocations, output_of, calls_of, text_in, text_at, thrown_ending, ending_of, report_in, report_of, onlooked, local, kept_of, Invocations}
+use Rattle.cc_meaning_exec.specs.Runs.{begun, begun_in, with_made_arguments, run_with, entered, onlooker, opening_invocations, text_in, text_at, thrown_ending, ending_of, report_in, report_of, onlooked, local, kept_of, Invocations}
 use Rattle.cc_meaning_exec.specs.WorkedPrograms.{nowhere}
 use Rattle.cc_meaning_alike.specs.Maps.{Map, empty, link, In, here, there, Extends}
 use Rattle.cc_meaning_alike.specs.Worlds.{Each, nil, each, AlikeHeaps, nulls, linked, AlikeValue, ints, longs, refs, AlikeObject, outs, instances, arrays, texts, builders, constants, BothObjects, two, Alike, start_at}
 use Rattle.cc_meaning_alike.specs.Ends.{AlikeEnd, both_return, both_throw, both_stop, both_jam, AlikeRan, WasRight, Keeps, LooksOn, HookFits}
 use Rattle.cc_meaning_alike.specs.Laws.{ReportIsLocal, no_notes, no_hold, everything}
-use Rattle.cc_alike_laws.proofs.Maps.{in_link, each_get, each_append, grow_values}
+use Rattle.cc_alike_laws.proofs.Maps.{in_link, each_append, grow_values}
 use Rattle.cc_alike_laws.proofs.Laws.{nowhere_looks, looking_keeps, looking_fits, opening_alike}
 use Rattle.cc_alike_laws.proofs.Glue.{moved}
 use Rattle.cc_alike_laws.proofs.Evals.{main_faithful}

@@ -1,5 +1,5 @@
 -- Each built-in method's act is alike itself, from alike arguments.
-use Rattle.std.proofs.Common.{◌≡◌, ℕ, ℤ, Bool, true, false, List, Option, Some, None, refl, subst}
+use Rattle.std.proofs.Common.{◌≡◌, ℕ, Bool, true, false, List, Option, refl, subst}
 use Rattle.cc_meaning.specs.declared.program.Program.{Program}
 use Rattle.cc_meaning.specs.declared.value.Object.{Object}
 use Rattle.cc_meaning.specs.declared.value.Value.{Value}
@@ -11,7 +11,7 @@ use Rattle.cc_meaning_rows.specs.declared.builtin.Printed.{Printed}
 use Rattle.cc_meaning_rows.specs.declared.builtin.Printed.TheVariants as form
 use Rattle.cc_meaning_rows.specs.Printing.{truth_units, null_units}
 use Rattle.cc_meaning_rows.specs.Rows.{built_in_numbered}
-use Rattle.cc_meaning_rows.specs.Calls.{truth, text_of, builder_of, message_of, copy_of, is_text_of, equals_text, unit_at, on_text, on_text_or_null, on_printed, row_act, on_receiver, row_of_call, act_of_call}
+use Rattle.cc_meaning_rows.specs.Calls.{truth, text_of, builder_of, message_of, copy_of, is_text_of, equals_text, on_text, on_text_or_null, on_printed, row_act, on_receiver, row_of_call, act_of_call}
 use Rattle.cc_meaning_alike.specs.Maps.{Map, In, Extends, OneToOne}
 use Rattle.cc_meaning_alike.specs.Worlds.{Each, nil, each, Both, neither, both, AlikeReference, nulls, linked, AlikeValue, ints, longs, refs, AlikeObject, outs, instances, arrays, texts, builders, constants}
 use Rattle.cc_meaning_alike.specs.Acts.{returns, stuck, AlikeAct, done, make, look, puts, append, tell}

@@ -1,5 +1,5 @@
 -- Alike steps keep two worlds alike.
-use Rattle.std.proofs.Common.{◌≡◌, ℕ, ◌==◌, Bool, true, false, cond, List, [], ◌∷◌, length, Option, Some, None, refl, sym, ap, subst, slice_get}
+use Rattle.std.proofs.Common.{◌≡◌, ℕ, ◌==◌, Bool, true, false, cond, List, [], ◌∷◌, length, Option, Some, None, refl, ap, subst, slice_get}
 use Rattle.std.specs.Prelude.{option_map, IsTrue, not, ◌&&◌, ◌||◌}
 use Rattle.cc_meaning.specs.declared.instruction.Kind.{Kind}
 use Rattle.cc_meaning.specs.declared.instruction.Kind.TheVariants as kind
@@ -21,7 +21,7 @@ use Rattle.cc_meaning.specs.Words.{words_of, words_of_event}
 use Rattle.cc_meaning_world.specs.World.{World}
 use Rattle.cc_meaning_world.specs.Sorts.{sort_of, type_of}
 use Rattle.cc_meaning_world.specs.Layouts.{new_object, zeros, shape}
-use Rattle.cc_meaning_world.specs.Changes.{less_by, with_words, with_object, number_for, with_literal, with_constant, cursor_at, with_answer}
+use Rattle.cc_meaning_world.specs.Changes.{less_by, with_words, with_object, number_for, with_literal, with_constant, cursor_at}
 use Rattle.cc_meaning_world.specs.Scripts.{class_asked, free_answer, has_answer, is_scripted, is_stateful, NextAnswer, Gives, Ended, Other, next_answer}
 use Rattle.cc_meaning_world.specs.Recorded.{shown, arg_of, args_of, words_made, words_recorded}
 use Rattle.cc_meaning_world.specs.Acts.{Outcome, Throws, Act, Reached, arrived, pay, paying, found, noted, units_of, or_make, given, freely, answered, asked, run_act}

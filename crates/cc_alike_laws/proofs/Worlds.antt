@@ -1,5 +1,5 @@
 -- Each step of a world keeps two worlds alike.
-use Rattle.std.proofs.Common.{true≢false, ◌≡◌, ◌≢◌, ◌⊎◌, ℕ, suc, ◌<◌, ◌≤◌, Bool, true, false, cond, List, [], ◌∷◌, ◌++◌, length, Option, Some, None, refl, sym, ap, ◌∙◌, subst, inl, inr, ⊎_elim, arith, slice_get, slice_set, append_assoc, append-nil, length-append, length-set}
+use Rattle.std.proofs.Common.{true≢false, ◌≡◌, ◌≢◌, ◌⊎◌, ℕ, suc, ◌<◌, ◌≤◌, Bool, true, false, cond, List, [], ◌∷◌, ◌++◌, length, refl, sym, ap, ◌∙◌, subst, inl, inr, ⊎_elim, arith, slice_get, slice_set, append_assoc, append-nil, length-append, length-set}
 use Rattle.std.specs.Prelude.{nat_lt, unwrap_or}
 use native.Mathlib.Decide.{ℕ_discrete}
 use Rattle.cc_meaning.specs.declared.report.Answer.{Answer}
