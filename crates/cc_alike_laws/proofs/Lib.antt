@@ -1,0 +1,14 @@
+mod Lists
+mod Maps
+mod Worlds
+mod Runs
+mod Pieces
+mod Rows
+mod Insns
+mod Quiet
+mod Kept
+mod Raised
+mod Evals
+mod Laws
+mod Glue
+mod Reports
