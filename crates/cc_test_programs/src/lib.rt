@@ -27,8 +27,8 @@ pub use catching::catch_division;
 pub use comparing::compare_texts;
 pub use fault::AssemblyFault;
 pub use names::{class, field, method, text};
-pub use parts::{class_of, code, function, main_of};
 pub use natives::{ask_apart, ask_twice};
+pub use parts::{class_of, code, function, main_of};
 pub use programs::{
     ProgramClass, ProgramCode, ProgramField, ProgramMethod, ProgramTry, assemble, build,
 };
