@@ -1,0 +1,3 @@
+pub mod Spending
+pub mod Rows
+pub mod Noting

@@ -1,0 +1,66 @@
+-- A row that has a place for each text or class, and the list of what was made.
+use Rattle.std.proofs.Common.{◌≡◌, ℕ, zero, suc, ◌+◌, ◌<◌, ◌≤◌, List, [], ◌∷◌, length, replicate, Option, Some, None, slice_get, slice_set, refl, arith}
+use Rattle.std.proofs.lemmas.List.{length-set}
+use Rattle.std.proofs.lemmas.Grind.{common_steps}
+use Rattle.cc_world.specs.Noted.{noted, RisesFrom, Rises, made_from, made_in}
+
+-- ---- reading
+
+-- what is below the first number of a list isn't in it
+absent : (places : List (Option ℕ)) (from what : ℕ) → what < from → number_for what (made_from from places) ≡ None
+absent [] from what h = refl
+absent (None ∷ rest) from what h = absent rest (suc from) what (omega (arith, h))
+absent (Some n ∷ rest) from what h = grind (arith, common_steps, absent rest (suc from) what (omega (arith, h)))
+
+number_from : (places : List (Option ℕ)) (from at what : ℕ) (found : Option ℕ) → what ≡ from + at → slice_get places at ≡ Some found → number_for what (made_from from places) ≡ found
+number_from [] from at what found e h = grind (arith, common_steps)
+number_from (None ∷ rest) from zero what found e h = grind (arith, common_steps, absent rest (suc from) what (omega (arith, e)))
+number_from (None ∷ rest) from (suc at) what found e h = number_from rest (suc from) at what found (omega (arith, e)) h
+number_from (Some n ∷ rest) from zero what found e h = grind (arith, common_steps)
+number_from (Some n ∷ rest) from (suc at) what found e h = grind (arith, common_steps, number_from rest (suc from) at what found (omega (arith, e)) h)
+
+pub number_in : (places : List (Option ℕ)) (at : ℕ) (found : Option ℕ) → slice_get places at ≡ Some found → number_for at (made_in places) ≡ found
+number_in places at found h = number_from places 0 at at found (omega arith) h
+
+-- ---- the order
+
+pub row_rises : (places : List (Option ℕ)) → Rises (made_in places)
+row_rises places = from_number places 0
+  where
+    lower : (places : List (Option ℕ)) (low from : ℕ) → low ≤ from → RisesFrom low (made_from from places)
+    lower [] low from h = tt
+    lower (None ∷ rest) low from h = lower rest low (suc from) (omega (arith, h))
+    lower (Some n ∷ rest) low from h = (omega (arith, h), lower rest (suc from) (suc from) (omega arith))
+
+    from_number : (places : List (Option ℕ)) (from : ℕ) → RisesFrom from (made_from from places)
+    from_number places from = lower places from from (omega arith)
+
+-- ---- writing
+
+-- what is below the first number of a list is noted in front
+in_front : (places : List (Option ℕ)) (from what number : ℕ) → what < from → noted what number (made_from from places) ≡ record { what = what; number = number } ∷ made_from from places
+in_front [] from what number h = refl
+in_front (None ∷ rest) from what number h = in_front rest (suc from) what number (omega (arith, h))
+in_front (Some n ∷ rest) from what number h = grind (arith, common_steps)
+
+noted_from : (places : List (Option ℕ)) (from at what number : ℕ) → what ≡ from + at → at < length places → made_from from (slice_set places at (Some number)) ≡ noted what number (made_from from places)
+noted_from [] from at what number e h = absurd (omega (arith, h))
+noted_from (None ∷ rest) from zero what number e h = grind (arith, common_steps, in_front rest (suc from) what number (omega (arith, e)))
+noted_from (None ∷ rest) from (suc at) what number e h = noted_from rest (suc from) at what number (omega (arith, e)) (omega (arith, h))
+noted_from (Some n ∷ rest) from zero what number e h = grind (arith, common_steps)
+noted_from (Some n ∷ rest) from (suc at) what number e h = grind (arith, common_steps, noted_from rest (suc from) at what number (omega (arith, e)) (omega (arith, h)))
+
+pub noted_in : (places : List (Option ℕ)) (at number : ℕ) → at < length places → made_in (slice_set places at (Some number)) ≡ noted at number (made_in places)
+noted_in places at number h = noted_from places 0 at at number (omega arith) h
+
+-- nothing was made at first
+pub empty_row : (count : ℕ) → made_in (replicate count None) ≡ []
+empty_row count = empty_from count 0
+  where
+    empty_from : (count from : ℕ) → made_from from (replicate count None) ≡ []
+    empty_from zero from = refl
+    empty_from (suc count) from = empty_from count (suc from)
+
+-- a row keeps its places
+pub same_room : (places : List (Option ℕ)) (at : ℕ) (entry : Option ℕ) → length (slice_set places at entry) ≡ length places
+same_room places at entry = length-set places at entry
