@@ -1,3 +1,4 @@
 pub mod Spending
 pub mod Rows
 pub mod Noting
+pub mod Flat

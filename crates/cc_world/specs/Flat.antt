@@ -28,14 +28,23 @@ object_in row (head.Constant class) = object.Constant class
 abbrev pub objects_in : List Value → List Head → List Object
 objects_in row heads = map (object_in row) heads
 
--- The values of each object begin where those of the one before it end, and the last ones end with the row. Lengths fit 32 bits.
+-- how many values of the row a head has
+abbrev pub slots_in : Head → ℕ
+slots_in (head.Slots form class from len) = len
+slots_in _ = 0
+
+-- A head whose values begin at a place. The lengths of all fit 32 bits.
+abbrev pub FitsAt : ℕ → Head → Type 0
+FitsAt at head.Out = ⊤
+FitsAt at (head.Slots form class from len) = (from ≡ at) × (len < 2 ^ 32)
+FitsAt at (head.Text units) = length units < 2 ^ 32
+FitsAt at (head.Builder units) = length units < 2 ^ 32
+FitsAt at (head.Constant class) = ⊤
+
+-- The values of each object begin where those of the one before it end, and the last ones end with the row.
 abbrev pub Laid : (at : ℕ) → List Head → List Value → Type 0
 Laid at [] row = at ≡ length row
-Laid at (head.Out ∷ rest) row = Laid at rest row
-Laid at (head.Slots form class from len ∷ rest) row = (from ≡ at) × ((len < 2 ^ 32) × Laid (at + len) rest row)
-Laid at (head.Text units ∷ rest) row = (length units < 2 ^ 32) × Laid at rest row
-Laid at (head.Builder units ∷ rest) row = (length units < 2 ^ 32) × Laid at rest row
-Laid at (head.Constant class ∷ rest) row = Laid at rest row
+Laid at (h ∷ rest) row = FitsAt at h × Laid (at + slots_in h) rest row
 
 -- the objects of a heap, and how many objects and values can still be put in without memory
 pub record Stored : Type 0 where

@@ -120,6 +120,7 @@ impl Heap {
     }
 
     /// A field of an instance, or an element of an array.
+    #[tactic(auto, using(crate::proofs::Flat::object_at, crate::proofs::Flat::get_span, crate::proofs::Flat::slots_fit))]
     pub(crate) fn slot(&self, id: ObjId, i: u32) -> Value
         requires { i < length (values_in (slice_get self.now.objects id)) }
         ensures { slice_get (values_in (slice_get self.now.objects id)) i ≡ Some result }
