@@ -69,7 +69,7 @@ head_fits [] row at id h l e = absurd (cc)
 head_fits (x ∷ hs) row at zero h l e =
     let same : x ≡ h = cc in
     found at (omega arith) (subst (FitsAt at) same l.0)
-      (subst (λ (y : Head). at + slots_in y ≤ length row) same (laid_end hs row (at + slots_in x) l.1))
+    (subst (λ (y : Head). at + slots_in y ≤ length row) same (laid_end hs row (at + slots_in x) l.1))
 head_fits (x ∷ hs) row at (suc id) h l e = further (head_fits hs row (at + slots_in x) id h l.1 e)
   where
     further : Found (at + slots_in x) row h → Found at row h
@@ -118,14 +118,14 @@ slot_written (h ∷ hs) row at zero form class from len i k v l e within is =
     let fits : (from ≡ at) × (len < 2 ^ 32) = subst (FitsAt at) same l.0 in
     let slots : slots_in h ≡ len = ap slots_in same in
     let first : object_in (slice_set row k v) h ≡ formed form class (slice_set (span from len row) i v) =
-        ap (object_in (slice_set row k v)) same ∙ ap (formed form class) (ap (λ (n : ℕ). span from len (slice_set row n v)) is ∙ in_span row from len i v within) in
+    ap (object_in (slice_set row k v)) same ∙ ap (formed form class) (ap (λ (n : ℕ). span from len (slice_set row n v)) is ∙ in_span row from len i v within) in
     let rest : objects_in (slice_set row k v) hs ≡ objects_in row hs = before_objects hs row (at + slots_in h) k v l.1 (omega (arith, is, within, slots, fits.0)) in
     cc
 slot_written (h ∷ hs) row at (suc id) form class from len i k v l e within is =
     let place : (at + slots_in h ≤ from) × ((len < 2 ^ 32) × (from + len ≤ length row)) = slots_fit hs row (at + slots_in h) id form class from len l.1 e in
     let first : object_in (slice_set row k v) h ≡ object_in row h = behind_object h row at k v l.0 (omega (arith, is, place.0)) in
     let rest : objects_in (slice_set row k v) hs ≡ slice_set (objects_in row hs) id (formed form class (slice_set (span from len row) i v)) =
-        slot_written hs row (at + slots_in h) id form class from len i k v l.1 e within is in
+    slot_written hs row (at + slots_in h) id form class from len i k v l.1 e within is in
     cc
 
 -- ---- a longer table
@@ -183,10 +183,10 @@ pub objects_slots : (hs : List Head) (row more : List Value) (at : ℕ) (form : 
 objects_slots hs row more at form class from len l starts ends =
     let old : objects_in (row ++ more) hs ≡ objects_in row hs = longer_objects hs row more at l in
     let values : span from len (row ++ more) ≡ more =
-        ap (λ (n : ℕ). span n len (row ++ more)) starts ∙ (ap (λ (n : ℕ). span (length row) n (row ++ more)) ends ∙ new_span row more) in
+    ap (λ (n : ℕ). span n len (row ++ more)) starts ∙ (ap (λ (n : ℕ). span (length row) n (row ++ more)) ends ∙ new_span row more) in
     map_push (object_in (row ++ more)) hs (head.Slots form class from len) ∙
     (ap (λ (os : List Object). os ++ formed form class (span from len (row ++ more)) ∷ []) old ∙
-     ap (λ (vs : List Value). objects_in row hs ++ formed form class vs ∷ []) values)
+    ap (λ (vs : List Value). objects_in row hs ++ formed form class vs ∷ []) values)
 
 -- ---- another head
 
@@ -209,3 +209,16 @@ objects_replaced hs row id h = map-set (object_in row) hs id h
 -- the object of a head
 pub object_at : (hs : List Head) (row : List Value) (id : ℕ) (h : Head) → slice_get hs id ≡ Some h → slice_get (objects_in row hs) id ≡ Some (object_in row h)
 object_at hs row id h e = slice_get-map (object_in row) hs id ∙ ap (option_map (object_in row)) e
+
+-- texts and builders are short
+pub text_fits : (hs : List Head) (row : List Value) (at id : ℕ) (units : List ℕ) → Laid at hs row → slice_get hs id ≡ Some (head.Text units) → length units < 2 ^ 32
+text_fits hs row at id units l e = short (head_fits hs row at id (head.Text units) l e)
+  where
+    short : Found at row (head.Text units) → length units < 2 ^ 32
+    short (found place above fits within) = fits
+
+pub builder_fits : (hs : List Head) (row : List Value) (at id : ℕ) (units : List ℕ) → Laid at hs row → slice_get hs id ≡ Some (head.Builder units) → length units < 2 ^ 32
+builder_fits hs row at id units l e = short (head_fits hs row at id (head.Builder units) l e)
+  where
+    short : Found at row (head.Builder units) → length units < 2 ^ 32
+    short (found place above fits within) = fits
