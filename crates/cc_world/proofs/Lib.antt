@@ -2,3 +2,4 @@ pub mod Spending
 pub mod Rows
 pub mod Noting
 pub mod Flat
+pub mod Heaps

@@ -85,7 +85,6 @@ impl Heap {
         self.heads.len() as u32
     }
 
-    #[tactic(auto, using(crate::proofs::Flat::object_at, crate::proofs::Flat::text_fits, crate::proofs::Flat::builder_fits, crate::proofs::Flat::slots_fit, crate::proofs::Flat::span_length))]
     pub(crate) fn shape(&self, id: ObjId) -> Shape
         requires { id < length self.now.objects }
         ensures { option_map shape_of (slice_get self.now.objects id) ≡ Some result }
@@ -133,7 +132,6 @@ impl Heap {
     }
 
     /// Writes a field of an instance or an element of an array.
-    #[tactic(auto, using(crate::proofs::Flat::slot_written, crate::proofs::Flat::laid_other, crate::proofs::Flat::slots_fit, crate::proofs::Flat::object_at))]
     pub(crate) fn set_slot(&mut self, id: ObjId, i: u32, value: Value)
         requires { i < length (values_in (slice_get self.old.objects id)) }
         ensures { Rewrites (put_in i value (slice_get self.old.objects id)) id self.old self.new }
@@ -160,7 +158,6 @@ impl Heap {
     }
 
     /// Gives a builder other units.
-    #[tactic(auto, using(crate::proofs::Flat::laid_replaced, crate::proofs::Flat::objects_replaced))]
     pub(crate) fn replace_units(&mut self, id: ObjId, units: Units)
         requires builder { IsTrue (is_builder (slice_get self.old.objects id)) }
         requires short { length units < 2 ^ 32 }
@@ -198,7 +195,6 @@ impl Heap {
     }
 
     /// Puts units behind those of a builder, in place.
-    #[tactic(auto, using(crate::proofs::Flat::laid_replaced, crate::proofs::Flat::objects_replaced, crate::proofs::Flat::object_at))]
     pub(crate) fn append(&mut self, id: ObjId, units: &[u16]) -> Result<(), Memory>
         requires { IsTrue (is_builder (slice_get self.old.objects id)) }
         ensures ok { OnOk result (Rewrites (more_units units.now (slice_get self.old.objects id)) id self.old self.new) }
@@ -217,7 +213,7 @@ impl Heap {
     }
 
     /// Puts a head without values behind the others.
-    #[tactic(auto, using(crate::proofs::Flat::laid_whole, crate::proofs::Flat::objects_whole))]
+    #[tactic(auto, using(crate::proofs::Flat::objects_whole))]
     fn put(&mut self, head: Head) -> ObjId
         requires room { 0 < self.old.spare_objects }
         requires few { length self.old.objects + 1 < 2 ^ 32 }
@@ -243,7 +239,7 @@ impl Heap {
         ensures spare { OnOk result (self.new.spare_objects + 1 ≡ self.old.spare_objects) }
         ensures slots { OnOk result (self.old.spare_slots ≤ self.new.spare_slots + length values) }
         ensures back { IfErr result (λ kept. kept ≡ values) }
-        ensures err { OnErr result (self.new ≡ self.old) }
+        ensures err { OnErr result (SameHeap self.old self.new) }
         ensures refused { OnErr result (self.old.spare_slots < length values) }
     {
         let id = self.heads.len() as u32;
@@ -296,7 +292,6 @@ impl Heap {
     }
 
     /// Puts an instance with copies of these values behind the other objects.
-    #[tactic(auto, using(crate::proofs::Flat::laid_slots, crate::proofs::Flat::objects_slots))]
     pub(crate) fn make_instance(
         &mut self,
         class: ClassIx,
@@ -326,7 +321,6 @@ impl Heap {
     }
 
     /// Puts an array of so many elements, each of which is `value`, behind the other objects.
-    #[tactic(auto, using(crate::proofs::Flat::laid_slots, crate::proofs::Flat::objects_slots))]
     pub(crate) fn make_array(
         &mut self,
         class: ClassIx,

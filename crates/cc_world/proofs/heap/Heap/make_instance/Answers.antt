@@ -1,14 +1,24 @@
-use Rattle.std.proofs.Common.{rules, ◌≡◌, ◌+◌, ◌<◌, ◌≤◌, ◌^◌, ◌⊎◌, [], ◌∷◌, ◌++◌, length, Some, IfOk, IfErr, OnOk, OnErr, IsSome, IsTrue, slice_get, slice_set, replicate, option_map, ℕ, ◌-◌, ◌*◌, ◌/◌, ◌%◌, Bool, true, false, nat_eq, nat_lt, List, slice_index_or, bit_and, bit_or, Fits, w8, w32, w64, Bor, MutBor}
-use Rattle.cc_meaning.specs.declared.value.Object.TheVariants as object
-use Rattle.cc_meaning_world.specs.Changes.{more_units, put_in}
-use Rattle.cc_world.specs.Shapes.{shape_of, size_of, values_of, values_in, units_in, is_builder}
-use Rattle.cc_world.specs.Flat.{formed, object_in, IsWhole, Rewrites, SameHeap, HeapTakes, HeapLacks}
+use Rattle.std.proofs.Common.{◌≡◌, ◌++◌, ◌∷◌, [], length, ap, sym, refl, ◌∙◌, arith}
+use Rattle.cc_world.specs.declared.heap.Form.TheVariants as form
+use Rattle.cc_world.specs.declared.heap.Head.{Head}
+use Rattle.cc_world.specs.declared.heap.Head.TheVariants as head
+use Rattle.cc_world.specs.Flat.{Stored}
+use Rattle.cc_world.proofs.Heaps.{pushed_slots, slots_pushed}
 use Rattle.cc_world.proofs.heap.Heap.make_instance.Goals as goal
+use Rattle.std.proofs.Common.{List}
 
--- src/heap.rt:299:5
 pub invariant_of-self-2 : goal.invariant_of-self-2
-invariant_of-self-2 c = ?
+invariant_of-self-2 c =
+    pushed_slots c.self.inside.heads.items c.push_reserved.new.self.items c.self.inside.row.items c.extend_from_slice.new.self.items c.args.values.now c.args.self.now.objects
+    form.Instance c.args.class c.len-from.result (length c.args.values.now)
+    (ap (λ (s : Stored). s.objects) c.self.view_is)
+    (c.push_reserved.ensures.items ∙ ap (λ (hs : List Head). hs ++ head.Slots form.Instance c.args.class c.len-from.result (length c.args.values.now) ∷ []) c.in_ok-reserve.ensures.items)
+    c.in_ok-extend_from_slice.ensures.items c.requires c.self.invariant.1 (c.len-from.ensures ∙ c.self.inside.row.ok.0) refl (omega (arith, c.if-values-gt-LONGEST.false))
 
--- src/heap.rt:299:5
 pub returns-clause-ok : goal.returns-clause-ok
-returns-clause-ok c = ?
+returns-clause-ok c =
+    slots_pushed c.self.inside.heads.items c.push_reserved.new.self.items c.self.inside.row.items c.extend_from_slice.new.self.items c.args.values.now c.args.self.now.objects
+    form.Instance c.args.class c.len-from.result (length c.args.values.now)
+    (ap (λ (s : Stored). s.objects) c.self.view_is)
+    (c.push_reserved.ensures.items ∙ ap (λ (hs : List Head). hs ++ head.Slots form.Instance c.args.class c.len-from.result (length c.args.values.now) ∷ []) c.in_ok-reserve.ensures.items)
+    c.in_ok-extend_from_slice.ensures.items c.self.invariant.1 (c.len-from.ensures ∙ c.self.inside.row.ok.0) refl

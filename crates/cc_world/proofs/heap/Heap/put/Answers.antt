@@ -1,10 +1,9 @@
-use Rattle.std.proofs.Common.{rules, ◌≡◌, ◌+◌, ◌<◌, ◌≤◌, ◌^◌, ◌⊎◌, [], ◌∷◌, ◌++◌, length, Some, IfOk, IfErr, OnOk, OnErr, IsSome, IsTrue, slice_get, slice_set, replicate, option_map, ℕ, ◌-◌, ◌*◌, ◌/◌, ◌%◌, Bool, true, false, nat_eq, nat_lt, List, slice_index_or, bit_and, bit_or, Fits, w8, w32, w64, Bor, MutBor}
-use Rattle.cc_meaning.specs.declared.value.Object.TheVariants as object
-use Rattle.cc_meaning_world.specs.Changes.{more_units, put_in}
-use Rattle.cc_world.specs.Shapes.{shape_of, size_of, values_of, values_in, units_in, is_builder}
-use Rattle.cc_world.specs.Flat.{formed, object_in, IsWhole, Rewrites, SameHeap, HeapTakes, HeapLacks}
+use Rattle.std.proofs.Common.{ap}
+use Rattle.cc_world.specs.Flat.{Stored}
+use Rattle.cc_world.proofs.Heaps.{pushed_whole}
 use Rattle.cc_world.proofs.heap.Heap.put.Goals as goal
 
--- src/heap.rt:220:5
 pub invariant_of-self : goal.invariant_of-self
-invariant_of-self c = ?
+invariant_of-self c =
+    pushed_whole c.self.inside.heads.items c.push_reserved.new.self.items c.self.inside.row.items c.args.self.now.objects c.args.head
+    (ap (λ (s : Stored). s.objects) c.self.view_is) c.push_reserved.ensures.items c.requires.few c.self.invariant.1 c.requires.whole

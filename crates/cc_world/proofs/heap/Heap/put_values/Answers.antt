@@ -1,14 +1,13 @@
-use Rattle.std.proofs.Common.{rules, ◌≡◌, ◌+◌, ◌<◌, ◌≤◌, ◌^◌, ◌⊎◌, [], ◌∷◌, ◌++◌, length, Some, IfOk, IfErr, OnOk, OnErr, IsSome, IsTrue, slice_get, slice_set, replicate, option_map, ℕ, ◌-◌, ◌*◌, ◌/◌, ◌%◌, Bool, true, false, nat_eq, nat_lt, List, slice_index_or, bit_and, bit_or, Fits, w8, w32, w64, Bor, MutBor}
-use Rattle.cc_meaning.specs.declared.value.Object.TheVariants as object
-use Rattle.cc_meaning_world.specs.Changes.{more_units, put_in}
-use Rattle.cc_world.specs.Shapes.{shape_of, size_of, values_of, values_in, units_in, is_builder}
-use Rattle.cc_world.specs.Flat.{formed, object_in, IsWhole, Rewrites, SameHeap, HeapTakes, HeapLacks}
+use Rattle.std.proofs.Common.{◌≡◌, ◌++◌, length, ap, sym, ◌∙◌, arith}
+use Rattle.std.proofs.lemmas.Grind.{common_steps}
+use Rattle.cc_world.specs.Flat.{Stored}
+use Rattle.cc_world.proofs.Heaps.{same_stored, pushed_slots}
 use Rattle.cc_world.proofs.heap.Heap.put_values.Goals as goal
 
--- src/heap.rt:254:13
-pub returns-then-is_err-clause-err : goal.returns-then-is_err-clause-err
-returns-then-is_err-clause-err c = ?
-
--- src/heap.rt:236:5
 pub invariant_of-self-2 : goal.invariant_of-self-2
-invariant_of-self-2 c = ?
+invariant_of-self-2 c =
+    let more : c.append.new.self.items ≡ c.self.inside.row.items ++ c.args.values = grind (arith, common_steps, c.append.ensures.items, c.if-is_err.ensures, c.into_vec-values.ensures) in
+    pushed_slots c.self.inside.heads.items c.push_reserved.new.self.items c.self.inside.row.items c.append.new.self.items c.args.values c.args.self.now.objects
+    c.args.form c.args.class c.len-from.result c.len-len.result
+    (ap (λ (s : Stored). s.objects) c.self.view_is) c.push_reserved.ensures.items more c.requires.few c.self.invariant.1
+    (c.len-from.ensures ∙ c.self.inside.row.ok.0) c.len-len.ensures.value (omega (arith, c.requires.short))

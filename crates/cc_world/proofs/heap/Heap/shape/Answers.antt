@@ -1,40 +1,53 @@
-use Rattle.std.proofs.Common.{rules, ◌≡◌, ◌+◌, ◌<◌, ◌≤◌, ◌^◌, ◌⊎◌, [], ◌∷◌, ◌++◌, length, Some, IfOk, IfErr, OnOk, OnErr, IsSome, IsTrue, slice_get, slice_set, replicate, option_map, ℕ, ◌-◌, ◌*◌, ◌/◌, ◌%◌, Bool, true, false, nat_eq, nat_lt, List, slice_index_or, bit_and, bit_or, Fits, w8, w32, w64, Bor, MutBor}
-use Rattle.cc_meaning.specs.declared.value.Object.TheVariants as object
-use Rattle.cc_meaning_world.specs.Changes.{more_units, put_in}
-use Rattle.cc_world.specs.Shapes.{shape_of, size_of, values_of, values_in, units_in, is_builder}
-use Rattle.cc_world.specs.Flat.{formed, object_in, IsWhole, Rewrites, SameHeap, HeapTakes, HeapLacks}
+use Rattle.std.proofs.Common.{◌≡◌, ◌<◌, ◌^◌, ℕ, length, Some, ap, sym, ◌∙◌, arith}
+use Rattle.cc_world.specs.declared.heap.Form.TheVariants as form
+use Rattle.cc_world.specs.declared.heap.Head.{Head}
+use Rattle.cc_world.specs.declared.shape.Shape.TheVariants as shape
+use Rattle.cc_world.specs.Shapes.{shape_of}
+use Rattle.cc_world.specs.Flat.{Stored, object_in}
+use Rattle.cc_world.proofs.Flat.{text_fits, builder_fits}
+use Rattle.cc_world.proofs.Heaps.{head_read, shape_read, slots_shape}
 use Rattle.cc_world.proofs.heap.Heap.shape.Goals as goal
 
--- src/heap.rt:114:22
 pub overflow_cast-result : goal.overflow_cast-result
-overflow_cast-result c = ?
+overflow_cast-result c =
+    let short : length c.in-Text.units < 2 ^ 32 = text_fits c.self.inside.heads.items c.self.inside.row.items 0 c.args.id c.in-Text.units c.self.invariant.1
+    (head_read c.self.inside.heads.items c.self.inside.row.items c.args.self.now.objects c.args.id c.index.result.now (ap (λ (s : Stored). s.objects) c.self.view_is) c.requires c.index.ensures ∙ ap Some c.in-Text.is) in
+    omega (arith, short, c.len.ensures.value)
 
--- src/heap.rt:117:22
 pub overflow_cast-result-in-Builder : goal.overflow_cast-result-in-Builder
-overflow_cast-result-in-Builder c = ?
+overflow_cast-result-in-Builder c =
+    let short : length c.in-Builder.units < 2 ^ 32 = builder_fits c.self.inside.heads.items c.self.inside.row.items 0 c.args.id c.in-Builder.units c.self.invariant.1
+    (head_read c.self.inside.heads.items c.self.inside.row.items c.args.self.now.objects c.args.id c.index.result.now (ap (λ (s : Stored). s.objects) c.self.view_is) c.requires c.index.ensures ∙ ap Some c.in-Builder.is) in
+    omega (arith, short, c.len-in-Builder.ensures.value)
 
--- src/heap.rt:88:5
 pub returns-in-Out : goal.returns-in-Out
-returns-in-Out c = ?
+returns-in-Out c =
+    shape_read c.self.inside.heads.items c.self.inside.row.items c.args.self.now.objects c.args.id c.index.result.now (ap (λ (s : Stored). s.objects) c.self.view_is) c.requires c.index.ensures ∙
+    ap (λ (h : Head). Some (shape_of (object_in c.self.inside.row.items h))) c.in-Out.is
 
--- src/heap.rt:88:5
-pub returns-in-Slots-Instance-default-default-default :
-    goal.returns-in-Slots-Instance-default-default-default
-returns-in-Slots-Instance-default-default-default c = ?
+pub returns-in-Slots-Instance-default-default-default : goal.returns-in-Slots-Instance-default-default-default
+returns-in-Slots-Instance-default-default-default c =
+    slots_shape c.self.inside.heads.items c.self.inside.row.items c.args.self.now.objects c.args.id c.index.result.now form.Instance
+    c.in-Slots-Instance-default-default-default.class c.in-Slots-Instance-default-default-default.from c.in-Slots-Instance-default-default-default.len
+    (ap (λ (s : Stored). s.objects) c.self.view_is) c.requires c.index.ensures c.self.invariant.1 (cc (c.in-Slots-Instance-default-default-default.is, c.in-Slots-Instance-default-default-default.form-is))
 
--- src/heap.rt:88:5
-pub returns-in-Slots-Array-default-default-default :
-    goal.returns-in-Slots-Array-default-default-default
-returns-in-Slots-Array-default-default-default c = ?
+pub returns-in-Slots-Array-default-default-default : goal.returns-in-Slots-Array-default-default-default
+returns-in-Slots-Array-default-default-default c =
+    slots_shape c.self.inside.heads.items c.self.inside.row.items c.args.self.now.objects c.args.id c.index.result.now form.Array
+    c.in-Slots-Array-default-default-default.class c.in-Slots-Array-default-default-default.from c.in-Slots-Array-default-default-default.len
+    (ap (λ (s : Stored). s.objects) c.self.view_is) c.requires c.index.ensures c.self.invariant.1 (cc (c.in-Slots-Array-default-default-default.is, c.in-Slots-Array-default-default-default.form-is))
 
--- src/heap.rt:88:5
 pub returns-in-Text : goal.returns-in-Text
-returns-in-Text c = ?
+returns-in-Text c =
+    shape_read c.self.inside.heads.items c.self.inside.row.items c.args.self.now.objects c.args.id c.index.result.now (ap (λ (s : Stored). s.objects) c.self.view_is) c.requires c.index.ensures ∙
+    (ap (λ (h : Head). Some (shape_of (object_in c.self.inside.row.items h))) c.in-Text.is ∙ ap (λ (n : ℕ). Some (shape.Text n)) (sym c.len.ensures.value))
 
--- src/heap.rt:88:5
 pub returns-in-Builder : goal.returns-in-Builder
-returns-in-Builder c = ?
+returns-in-Builder c =
+    shape_read c.self.inside.heads.items c.self.inside.row.items c.args.self.now.objects c.args.id c.index.result.now (ap (λ (s : Stored). s.objects) c.self.view_is) c.requires c.index.ensures ∙
+    (ap (λ (h : Head). Some (shape_of (object_in c.self.inside.row.items h))) c.in-Builder.is ∙ ap (λ (n : ℕ). Some (shape.Builder n)) (sym c.len-in-Builder.ensures.value))
 
--- src/heap.rt:88:5
 pub returns-in-Constant : goal.returns-in-Constant
-returns-in-Constant c = ?
+returns-in-Constant c =
+    shape_read c.self.inside.heads.items c.self.inside.row.items c.args.self.now.objects c.args.id c.index.result.now (ap (λ (s : Stored). s.objects) c.self.view_is) c.requires c.index.ensures ∙
+    ap (λ (h : Head). Some (shape_of (object_in c.self.inside.row.items h))) c.in-Constant.is
