@@ -1,10 +1,12 @@
 -- Noting one object in a list of what was made.
-use Rattle.std.proofs.Common.{◌≡◌, ℕ, suc, ◌<◌, ◌≤◌, ◌==◌, Bool, true, false, cond, nat_lt, List, [], ◌∷◌, Some, refl, subst, arith}
+use Rattle.std.proofs.Common.{◌≡◌, ℕ, suc, ◌<◌, ◌≤◌, ◌==◌, Bool, true, false, cond, nat_lt, List, [], ◌∷◌, Some, None, refl, subst, arith}
 use Rattle.std.proofs.lemmas.Grind.{common_steps}
 use Rattle.cc_meaning.specs.declared.value.Made.{Made}
+use Rattle.cc_meaning_world.specs.Changes.{number_for, noted_made}
 use Rattle.cc_world.specs.Noted.{noted, RisesFrom, Rises}
 
 pub found : (what number asked : ℕ) (made : List Made) → number_for asked (noted what number made) ≡ cond (what == asked) (Some number) (number_for asked made)
+unfolding number_for
 found what number asked [] = refl
 found what number asked (m ∷ rest) = grind (arith, common_steps, found what number asked rest)
 
@@ -27,3 +29,9 @@ risen what number low (m ∷ rest) low_what rises =
 
 pub order : (what number : ℕ) (made : List Made) → Rises made → Rises (noted what number made)
 order what number made rises = risen what number 0 made (omega arith) rises
+
+-- where nothing was noted, an object is put in as a run does
+pub first : (what number : ℕ) (made : List Made) → number_for what made ≡ None → noted what number made ≡ noted_made (record { what = what; number = number }) made
+unfolding number_for noted_made
+first what number [] h = refl
+first what number (m ∷ rest) h = grind (arith, common_steps, first what number rest)

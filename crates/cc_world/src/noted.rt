@@ -11,6 +11,6 @@ pub fn law_noted()
     ensures found { (what number asked : ℕ) (made : List Made) →
         number_for asked (noted what number made) ≡ cond (what == asked) (Some number) (number_for asked made) }
     ensures order { (what number : ℕ) (made : List Made) → Rises made → Rises (noted what number made) }
-    ensures first { (what number : ℕ) (made : List Made) → Rises made → number_for what made ≡ None →
+    ensures first { (what number : ℕ) (made : List Made) → number_for what made ≡ None →
         noted what number made ≡ noted_made (record { what = what; number = number }) made }
 {}

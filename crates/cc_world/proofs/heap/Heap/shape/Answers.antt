@@ -1,6 +1,8 @@
 use Rattle.std.proofs.Common.{◌≡◌, ◌<◌, ◌^◌, ℕ, length, Some, ap, sym, ◌∙◌, arith}
 use Rattle.cc_world.specs.declared.heap.Form.TheVariants as form
+use Rattle.cc_world.specs.declared.heap.Form.{Form}
 use Rattle.cc_world.specs.declared.heap.Head.{Head}
+use Rattle.cc_world.specs.declared.heap.Head.TheVariants as head
 use Rattle.cc_world.specs.declared.shape.Shape.TheVariants as shape
 use Rattle.cc_world.specs.Shapes.{shape_of}
 use Rattle.cc_world.specs.Flat.{Stored, object_in}
@@ -29,13 +31,13 @@ pub returns-in-Slots-Instance-default-default-default : goal.returns-in-Slots-In
 returns-in-Slots-Instance-default-default-default c =
     slots_shape c.self.inside.heads.items c.self.inside.row.items c.args.self.now.objects c.args.id c.index.result.now form.Instance
     c.in-Slots-Instance-default-default-default.class c.in-Slots-Instance-default-default-default.from c.in-Slots-Instance-default-default-default.len
-    (ap (λ (s : Stored). s.objects) c.self.view_is) c.requires c.index.ensures c.self.invariant.1 (cc (c.in-Slots-Instance-default-default-default.is, c.in-Slots-Instance-default-default-default.form-is))
+    (ap (λ (s : Stored). s.objects) c.self.view_is) c.requires c.index.ensures c.self.invariant.1 (c.in-Slots-Instance-default-default-default.is ∙ ap (λ (f : Form). head.Slots f c.in-Slots-Instance-default-default-default.class c.in-Slots-Instance-default-default-default.from c.in-Slots-Instance-default-default-default.len) c.in-Slots-Instance-default-default-default.form-is)
 
 pub returns-in-Slots-Array-default-default-default : goal.returns-in-Slots-Array-default-default-default
 returns-in-Slots-Array-default-default-default c =
     slots_shape c.self.inside.heads.items c.self.inside.row.items c.args.self.now.objects c.args.id c.index.result.now form.Array
     c.in-Slots-Array-default-default-default.class c.in-Slots-Array-default-default-default.from c.in-Slots-Array-default-default-default.len
-    (ap (λ (s : Stored). s.objects) c.self.view_is) c.requires c.index.ensures c.self.invariant.1 (cc (c.in-Slots-Array-default-default-default.is, c.in-Slots-Array-default-default-default.form-is))
+    (ap (λ (s : Stored). s.objects) c.self.view_is) c.requires c.index.ensures c.self.invariant.1 (c.in-Slots-Array-default-default-default.is ∙ ap (λ (f : Form). head.Slots f c.in-Slots-Array-default-default-default.class c.in-Slots-Array-default-default-default.from c.in-Slots-Array-default-default-default.len) c.in-Slots-Array-default-default-default.form-is)
 
 pub returns-in-Text : goal.returns-in-Text
 returns-in-Text c =
