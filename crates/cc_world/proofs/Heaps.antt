@@ -12,10 +12,8 @@ use Rattle.cc_world.specs.declared.heap.Form.{Form}
 use Rattle.cc_world.specs.declared.heap.Form.TheVariants as form
 use Rattle.cc_world.specs.declared.heap.Head.{Head}
 use Rattle.cc_world.specs.declared.heap.Head.TheVariants as head
-use Rattle.cc_world.specs.declared.shape.Shape.{Shape}
-use Rattle.cc_world.specs.declared.shape.Shape.TheVariants as shape
 use Rattle.cc_world.specs.Shapes.{shape_of, values_of, values_in, is_builder}
-use Rattle.cc_world.specs.Flat.{span, formed, object_in, objects_in, slots_in, Laid, IsWhole, Stored, Rewrites}
+use Rattle.cc_world.specs.Flat.{span, formed, shape_formed, object_in, objects_in, slots_in, Laid, IsWhole, Stored, Rewrites}
 use Rattle.cc_world.proofs.Flat.{object_at, slots_fit, span_length, laid_slots, objects_slots, laid_whole}
 
 -- ---- reading
@@ -38,10 +36,6 @@ object_read hs row objects id x same within read =
 pub shape_read : (hs : List Head) (row : List Value) (objects : List Object) (id : ℕ) (x : Head) → objects_in row hs ≡ objects → id < length objects →
     x ≡ slice_index_or hs id x → option_map shape_of (slice_get objects id) ≡ Some (shape_of (object_in row x))
 shape_read hs row objects id x same within read = ap (option_map shape_of) (object_read hs row objects id x same within read)
-
-abbrev pub shape_formed : Form → (class len : ℕ) → Shape
-shape_formed form.Instance class len = shape.Instance class len
-shape_formed form.Array class len = shape.Array class len
 
 shape_of_formed : (f : Form) (class : ℕ) (values : List Value) → shape_of (formed f class values) ≡ shape_formed f class (length values)
 shape_of_formed form.Instance class values = refl

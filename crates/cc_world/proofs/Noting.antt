@@ -1,5 +1,5 @@
 -- Noting one object in a list of what was made.
-use Rattle.std.proofs.Common.{◌≡◌, ℕ, suc, ◌<◌, ◌≤◌, ◌==◌, Bool, true, false, cond, nat_lt, List, [], ◌∷◌, Some, None, refl, subst, arith}
+use Rattle.std.proofs.Common.{◌≡◌, ℕ, suc, ◌<◌, ◌≤◌, ◌==◌, Bool, true, false, cond, nat_lt, List, [], ◌∷◌, Some, None, refl, ap, subst, arith}
 use Rattle.std.proofs.lemmas.Grind.{common_steps}
 use Rattle.cc_meaning.specs.declared.value.Made.{Made}
 use Rattle.cc_meaning_world.specs.Changes.{number_for, noted_made}
@@ -31,7 +31,20 @@ pub order : (what number : ℕ) (made : List Made) → Rises made → Rises (not
 order what number made rises = risen what number 0 made (omega arith) rises
 
 -- where nothing was noted, an object is put in as a run does
+first_at : (what number : ℕ) (m : Made) (rest : List Made) (same less more : Bool) → (m.what == what) ≡ same → nat_lt m.what what ≡ less → nat_lt what m.what ≡ more →
+    number_for what (m ∷ rest) ≡ None → (number_for what rest ≡ None → noted what number rest ≡ noted_made (record { what = what; number = number }) rest) →
+    noted what number (m ∷ rest) ≡ noted_made (record { what = what; number = number }) (m ∷ rest)
+unfolding number_for noted_made
+first_at what number m rest true less more e l g none later = absurd (let wrong : Some m.number ≡ None = rw e at none in cc)
+first_at what number m rest false true more e l g none later =
+    let above : more ≡ false = grind (arith, common_steps, l, g) in
+    let rest_none : number_for what rest ≡ None = rw e at none in
+    rw (l, g, above) (ap (λ (ms : List Made). m ∷ ms) (later rest_none))
+first_at what number m rest false false more e l g none later =
+    let above : more ≡ true = grind (arith, common_steps, e, l, g) in
+    rw (l, g, above, e) refl
+
 pub first : (what number : ℕ) (made : List Made) → number_for what made ≡ None → noted what number made ≡ noted_made (record { what = what; number = number }) made
 unfolding number_for noted_made
 first what number [] h = refl
-first what number (m ∷ rest) h = grind (arith, common_steps, first what number rest)
+first what number (m ∷ rest) h = first_at what number m rest (m.what == what) (nat_lt m.what what) (nat_lt what m.what) refl refl refl h (first what number rest)

@@ -7,6 +7,8 @@ use Rattle.cc_world.specs.Shapes.{size_of, values_of}
 use Rattle.cc_world.specs.declared.heap.Form.{Form}
 use Rattle.cc_world.specs.declared.heap.Form.TheVariants as form
 use Rattle.cc_world.specs.declared.heap.Head.{Head}
+use Rattle.cc_world.specs.declared.shape.Shape.{Shape}
+use Rattle.cc_world.specs.declared.shape.Shape.TheVariants as shape
 use Rattle.cc_world.specs.declared.heap.Head.TheVariants as head
 
 -- a part of the row
@@ -16,6 +18,10 @@ span from len row = take len (drop from row)
 abbrev pub formed : Form → ℕ → List Value → Object
 formed form.Instance class values = object.Instance class values
 formed form.Array class values = object.Array class values
+
+abbrev pub shape_formed : Form → (class len : ℕ) → Shape
+shape_formed form.Instance class len = shape.Instance class len
+shape_formed form.Array class len = shape.Array class len
 
 -- the object of a head
 abbrev pub object_in : List Value → Head → Object

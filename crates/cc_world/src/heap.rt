@@ -4,7 +4,7 @@ ghost use Rattle.std.specs.Prelude.{◌≡◌, ◌+◌, ◌<◌, ◌≤◌, ◌^
 ghost use Rattle.cc_meaning.specs.declared.value.Object.TheVariants as object;
 ghost use Rattle.cc_meaning_world.specs.Changes.{more_units, put_in};
 ghost use Rattle.cc_world.specs.Shapes.{shape_of, size_of, values_of, values_in, units_in, is_builder};
-ghost use Rattle.cc_world.specs.Flat.{formed, object_in, IsWhole, Rewrites, SameHeap, HeapTakes, HeapLacks};
+ghost use Rattle.cc_world.specs.Flat.{formed, shape_formed, object_in, IsWhole, Rewrites, SameHeap, HeapTakes, HeapLacks};
 
 use crate::shape::Shape;
 use cc_list::List;
@@ -75,6 +75,15 @@ fn size(object: &Object) -> usize
     }
 }
 
+fn slots_shape(form: Form, class: ClassIx, len: u32) -> Shape
+    ensures { result ≡ shape_formed form class len }
+{
+    match form {
+        Form::Instance => Shape::Instance { class, len },
+        Form::Array => Shape::Array { class, len },
+    }
+}
+
 /// What takes no memory.
 impl Heap {
     /// How many objects there are.
@@ -92,23 +101,11 @@ impl Heap {
         match &self.heads[id as usize] {
             Head::Out => Shape::Out,
             Head::Slots {
-                form: Form::Instance,
+                form,
                 class,
                 len,
                 ..
-            } => Shape::Instance {
-                class: *class,
-                len: *len,
-            },
-            Head::Slots {
-                form: Form::Array,
-                class,
-                len,
-                ..
-            } => Shape::Array {
-                class: *class,
-                len: *len,
-            },
+            } => slots_shape(*form, *class, *len),
             Head::Text(units) => Shape::Text {
                 len: units.len() as u32,
             },

@@ -177,6 +177,7 @@ impl World {
     }
 
     /// Writes a field of an instance or an element of an array.
+    #[tactic(auto, unfolding(cc_meaning_world::specs::Changes::with_object_at))]
     pub fn set_slot(&mut self, id: ObjId, i: u32, value: Value)
         requires { i < length (values_in (slice_get self.old.world.objects id)) }
         ensures { IsWritten (put_in i value (slice_get self.old.world.objects id)) id self.old self.new }
@@ -193,6 +194,7 @@ impl World {
     }
 
     /// Gives a builder other units.
+    #[tactic(auto, unfolding(cc_meaning_world::specs::Changes::with_object_at))]
     pub fn replace_units(&mut self, id: ObjId, units: Units)
         requires builder { IsTrue (is_builder (slice_get self.old.world.objects id)) }
         requires short { length units < 2 ^ 32 }
@@ -215,6 +217,7 @@ impl World {
     }
 
     /// Puts an object behind the others: its number is how many there were. Where there is no memory the object comes back.
+    #[tactic(auto, using(crate::proofs::Rows::names_kept), unfolding(cc_meaning_world::specs::Changes::with_object))]
     pub fn make(&mut self, object: Object) -> Result<ObjId, (Object, Memory)>
         requires { length self.old.world.objects + 1 < 2 ^ 32 }
         ensures number { IfOk result (λ id. id ≡ length self.old.world.objects) }
@@ -229,6 +232,7 @@ impl World {
     }
 
     /// Puts an instance with copies of these values behind the other objects.
+    #[tactic(auto, using(crate::proofs::Rows::names_kept), unfolding(cc_meaning_world::specs::Changes::with_object))]
     pub fn make_instance(&mut self, class: ClassIx, values: &[Value]) -> Result<ObjId, Memory>
         requires { length self.old.world.objects + 1 < 2 ^ 32 }
         ensures number { IfOk result (λ id. id ≡ length self.old.world.objects) }
@@ -242,6 +246,7 @@ impl World {
     }
 
     /// Puts an array of so many elements, each of which is `value`, behind the other objects.
+    #[tactic(auto, using(crate::proofs::Rows::names_kept), unfolding(cc_meaning_world::specs::Changes::with_object))]
     pub fn make_array(&mut self, class: ClassIx, len: u32, value: Value) -> Result<ObjId, Memory>
         requires { length self.old.world.objects + 1 < 2 ^ 32 }
         ensures number { IfOk result (λ id. id ≡ length self.old.world.objects) }
@@ -255,6 +260,7 @@ impl World {
     }
 
     /// Puts units behind those of a builder, in place. A builder has fewer than 2^32 units: one that would get more is refused too.
+    #[tactic(auto, unfolding(cc_meaning_world::specs::Changes::with_object_at))]
     pub fn append(&mut self, id: ObjId, units: &[u16]) -> Result<(), Memory>
         requires { IsTrue (is_builder (slice_get self.old.world.objects id)) }
         ensures ok { OnOk result (IsWritten (more_units units.now (slice_get self.old.world.objects id)) id self.old self.new) }
@@ -301,7 +307,7 @@ impl World {
     }
 
     /// The object that was made for a text's literals, where one was.
-    #[tactic(auto, using(crate::proofs::Rows::number_in, crate::proofs::Rows::row_rises, crate::proofs::Rows::row_in_range))]
+    #[tactic(auto, using(crate::proofs::Rows::number_in, crate::proofs::Rows::row_rises, crate::proofs::Rows::row_in_range, crate::proofs::Rows::named))]
     pub fn literal(&self, text: TextIx) -> Option<ObjId>
         requires { text < self.now.texts }
         ensures number { result ≡ number_for text self.now.world.literals }
@@ -313,7 +319,7 @@ impl World {
     }
 
     /// Notes the object that was made for a text's literals.
-    #[tactic(auto, using(crate::proofs::Rows::noted_in, crate::proofs::Rows::same_room))]
+    #[tactic(auto, using(crate::proofs::Rows::noted_in, crate::proofs::Rows::same_room, crate::proofs::Rows::names_set, crate::proofs::Noting::first), unfolding(cc_meaning_world::specs::Changes::with_literal))]
     pub fn set_literal(&mut self, text: TextIx, object: ObjId)
         requires text { text < self.old.texts }
         requires object { object < length self.old.world.objects }
@@ -325,7 +331,7 @@ impl World {
     }
 
     /// The object that was made for a class's constants, where one was.
-    #[tactic(auto, using(crate::proofs::Rows::number_in, crate::proofs::Rows::row_rises, crate::proofs::Rows::row_in_range))]
+    #[tactic(auto, using(crate::proofs::Rows::number_in, crate::proofs::Rows::row_rises, crate::proofs::Rows::row_in_range, crate::proofs::Rows::named))]
     pub fn constant(&self, class: ClassIx) -> Option<ObjId>
         requires { class < length self.now.world.counters.statuses }
         ensures number { result ≡ number_for class self.now.world.constants }
@@ -337,7 +343,7 @@ impl World {
     }
 
     /// Notes the object that was made for a class's constants.
-    #[tactic(auto, using(crate::proofs::Rows::noted_in))]
+    #[tactic(auto, using(crate::proofs::Rows::noted_in, crate::proofs::Rows::same_room, crate::proofs::Rows::names_set, crate::proofs::Noting::first), unfolding(cc_meaning_world::specs::Changes::with_constant))]
     pub fn set_constant(&mut self, class: ClassIx, object: ObjId)
         requires class { class < length self.old.world.counters.statuses }
         requires object { object < length self.old.world.objects }

@@ -1,8 +1,5 @@
 use Rattle.std.proofs.Common.{◌≡◌, ◌<◌, ◌^◌, ℕ, length, Some, ap, sym, ◌∙◌, arith}
-use Rattle.cc_world.specs.declared.heap.Form.TheVariants as form
-use Rattle.cc_world.specs.declared.heap.Form.{Form}
 use Rattle.cc_world.specs.declared.heap.Head.{Head}
-use Rattle.cc_world.specs.declared.heap.Head.TheVariants as head
 use Rattle.cc_world.specs.declared.shape.Shape.TheVariants as shape
 use Rattle.cc_world.specs.Shapes.{shape_of}
 use Rattle.cc_world.specs.Flat.{Stored, object_in}
@@ -27,17 +24,11 @@ returns-in-Out c =
     shape_read c.self.inside.heads.items c.self.inside.row.items c.args.self.now.objects c.args.id c.index.result.now (ap (λ (s : Stored). s.objects) c.self.view_is) c.requires c.index.ensures ∙
     ap (λ (h : Head). Some (shape_of (object_in c.self.inside.row.items h))) c.in-Out.is
 
-pub returns-in-Slots-Instance-default-default-default : goal.returns-in-Slots-Instance-default-default-default
-returns-in-Slots-Instance-default-default-default c =
-    slots_shape c.self.inside.heads.items c.self.inside.row.items c.args.self.now.objects c.args.id c.index.result.now form.Instance
-    c.in-Slots-Instance-default-default-default.class c.in-Slots-Instance-default-default-default.from c.in-Slots-Instance-default-default-default.len
-    (ap (λ (s : Stored). s.objects) c.self.view_is) c.requires c.index.ensures c.self.invariant.1 (c.in-Slots-Instance-default-default-default.is ∙ ap (λ (f : Form). head.Slots f c.in-Slots-Instance-default-default-default.class c.in-Slots-Instance-default-default-default.from c.in-Slots-Instance-default-default-default.len) c.in-Slots-Instance-default-default-default.form-is)
-
-pub returns-in-Slots-Array-default-default-default : goal.returns-in-Slots-Array-default-default-default
-returns-in-Slots-Array-default-default-default c =
-    slots_shape c.self.inside.heads.items c.self.inside.row.items c.args.self.now.objects c.args.id c.index.result.now form.Array
-    c.in-Slots-Array-default-default-default.class c.in-Slots-Array-default-default-default.from c.in-Slots-Array-default-default-default.len
-    (ap (λ (s : Stored). s.objects) c.self.view_is) c.requires c.index.ensures c.self.invariant.1 (c.in-Slots-Array-default-default-default.is ∙ ap (λ (f : Form). head.Slots f c.in-Slots-Array-default-default-default.class c.in-Slots-Array-default-default-default.from c.in-Slots-Array-default-default-default.len) c.in-Slots-Array-default-default-default.form-is)
+pub returns-in-Slots : goal.returns-in-Slots
+returns-in-Slots c =
+    slots_shape c.self.inside.heads.items c.self.inside.row.items c.args.self.now.objects c.args.id c.index.result.now c.in-Slots.form
+    c.in-Slots.class c.in-Slots.from c.in-Slots.len
+    (ap (λ (s : Stored). s.objects) c.self.view_is) c.requires c.index.ensures c.self.invariant.1 c.in-Slots.is ∙ ap Some (sym c.slots_shape.ensures)
 
 pub returns-in-Text : goal.returns-in-Text
 returns-in-Text c =
