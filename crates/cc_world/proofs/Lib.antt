@@ -3,3 +3,4 @@ pub mod Rows
 pub mod Noting
 pub mod Flat
 pub mod Heaps
+pub mod Growing

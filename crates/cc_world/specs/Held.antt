@@ -61,10 +61,10 @@ abbrev pub LacksRoom : Object → Spare → Type 0
 LacksRoom o spare = (spare.objects ≡ 0) ⊎ ((spare.slots < length (values_of o)) ⊎ (2 ^ 32 ≤ size_of o))
 
 -- there is room for so many
-pub record HasRoom (objects slots events : ℕ) (spare : Spare) : Type 0 where
-  pub objects : objects ≤ spare.objects
-  pub slots : slots ≤ spare.slots
-  pub events : events ≤ spare.events
+pub record HasRoom (makes values records : ℕ) (spare : Spare) : Type 0 where
+  pub objects : makes ≤ spare.objects
+  pub slots : values ≤ spare.slots
+  pub events : records ≤ spare.events
 
 -- ---- spending
 

@@ -60,6 +60,13 @@ impl Model for World {
         (NamesBelow (length w.heap.objects) w.literals × NamesBelow (length w.heap.objects) w.constants)) };
 }
 
+/// So many places, in which nothing is noted.
+fn places(alloc: Global, count: usize) -> Result<List<Option<ObjId>>, Memory>
+    ensures { IfOk result (λ row. row ≡ replicate count None) }
+{
+    Ok(List::from_vec(vec![in alloc; None; count]?))
+}
+
 impl World {
     /// The world before anything was done, in which `System.out` is the one object. It has room for every literal and class constant of the program.
     #[tactic(auto, using(crate::proofs::Rows::empty_row, crate::proofs::Rows::no_names), unfolding(cc_meaning_world::specs::Opening::opening_world))]
@@ -71,8 +78,8 @@ impl World {
         Ok(World {
             heap: Heap::new(alloc)?,
             statics: statics(alloc, program)?,
-            literals: List::from_vec(vec![in alloc; None; program.texts.len()]?),
-            constants: List::from_vec(vec![in alloc; None; classes]?),
+            literals: places(alloc, program.texts.len())?,
+            constants: places(alloc, classes)?,
             statuses: List::from_vec(vec![in alloc; 0; classes]?),
             cursors: List::from_vec(vec![in alloc; 0; classes]?),
             events: Vec::new(alloc),
@@ -400,9 +407,10 @@ impl World {
         ensures err { OnErr result (self.new ≡ self.old) }
         ensures refused { OnErr result (self.old.spare.events ≡ 0) }
     {
-        match self.events.push(event) {
-            Ok(()) => Ok(()),
-            Err(refused) => Err((refused.value, Memory)),
+        if self.events.reserve(1).is_err() {
+            return Err((event, Memory));
         }
+        self.events.push_reserved(event);
+        Ok(())
     }
 }
