@@ -1,5 +1,5 @@
 -- A row that has a place for each text or class, and the list of what was made.
-use Rattle.std.proofs.Common.{◌≡◌, ℕ, zero, suc, ◌+◌, ◌<◌, ◌≤◌, List, [], ◌∷◌, length, replicate, Option, Some, None, IfSome, slice_get, slice_set, refl, subst, arith}
+use Rattle.std.proofs.Common.{◌≡◌, ℕ, zero, suc, ◌+◌, ◌<◌, ◌≤◌, List, [], ◌∷◌, length, replicate, Option, Some, None, IfSome, slice_get, slice_set, refl, sym, subst, arith}
 use Rattle.std.proofs.lemmas.List.{length-set}
 use Rattle.std.proofs.lemmas.Grind.{common_steps}
 use Rattle.cc_meaning_world.specs.Changes.{number_for}
@@ -73,6 +73,9 @@ same_room places at entry = length-set places at entry
 pub no_names : (count objects : ℕ) → NamesBelow objects (replicate count None)
 no_names zero objects = tt
 no_names (suc count) objects = no_names count objects
+
+pub unnamed : (places : List (Option ℕ)) (count objects : ℕ) → places ≡ replicate count None → NamesBelow objects places
+unnamed places count objects e = subst (NamesBelow objects) (sym e) (no_names count objects)
 
 -- there are more objects
 pub names_kept : (places : List (Option ℕ)) (objects more : ℕ) → NamesBelow objects places → objects ≤ more → NamesBelow more places
