@@ -1,6 +1,6 @@
 -- Heads and a row: what a write to the row, and a longer row or table, does to the objects.
-use Rattle.std.proofs.Common.{◌≡◌, ℕ, zero, suc, ◌+◌, ◌<◌, ◌≤◌, ◌^◌, List, [], ◌∷◌, ◌++◌, length, map, take, drop, Option, Some, None, slice_get, slice_set, option_map, refl, ap, sym, subst, ◌∙◌, arith}
-use Rattle.std.proofs.lemmas.List.{take-set-le, drop-set-lt, drop-set-add, drop-append-le, take-append-le, take_all, drop_at, length-drop, length-take-le, length-append, length-set, map-set, map_push}
+use Rattle.std.proofs.Common.{◌≡◌, ℕ, zero, suc, ◌+◌, ◌<◌, ◌≤◌, ◌^◌, List, [], ◌∷◌, ◌++◌, length, take, drop, Option, Some, None, slice_get, slice_set, option_map, refl, ap, sym, subst, ◌∙◌, arith}
+use Rattle.std.proofs.lemmas.List.{take-set-le, drop-set-lt, drop-set-add, drop-append-le, take-append-le, take_all, drop_at, length-drop, length-take-le, length-append, map-set, map_push}
 use Rattle.std.proofs.lemmas.Option.{slice_get-map}
 use Rattle.cc_meaning.specs.declared.value.Object.{Object}
 use Rattle.cc_meaning.specs.declared.value.Value.{Value}

@@ -1,4 +1,4 @@
-use Rattle.std.proofs.Common.{◌≡◌, ◌++◌, ◌∷◌, [], length, ap, sym, refl, ◌∙◌, arith}
+use Rattle.std.proofs.Common.{◌++◌, ◌∷◌, [], length, ap, refl, ◌∙◌, arith}
 use Rattle.cc_world.specs.declared.heap.Form.TheVariants as form
 use Rattle.cc_world.specs.declared.heap.Head.{Head}
 use Rattle.cc_world.specs.declared.heap.Head.TheVariants as head

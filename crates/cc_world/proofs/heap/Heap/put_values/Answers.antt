@@ -1,7 +1,7 @@
-use Rattle.std.proofs.Common.{◌≡◌, ◌++◌, length, ap, sym, ◌∙◌, arith}
+use Rattle.std.proofs.Common.{◌≡◌, ◌++◌, ap, ◌∙◌, arith}
 use Rattle.std.proofs.lemmas.Grind.{common_steps}
 use Rattle.cc_world.specs.Flat.{Stored}
-use Rattle.cc_world.proofs.Heaps.{same_stored, pushed_slots}
+use Rattle.cc_world.proofs.Heaps.{pushed_slots}
 use Rattle.cc_world.proofs.heap.Heap.put_values.Goals as goal
 
 pub invariant_of-self-2 : goal.invariant_of-self-2

@@ -1,9 +1,8 @@
-use Rattle.std.proofs.Common.{◌≡◌, ◌<◌, ◌-◌, ◌+◌, ℕ, List, length, Some, slice_get, ap, sym, subst, refl, ◌∙◌, arith}
+use Rattle.std.proofs.Common.{◌≡◌, ◌<◌, ◌-◌, ◌+◌, ℕ, List, length, Some, slice_get, ap, subst, refl, ◌∙◌}
 use Rattle.std.proofs.lemmas.List.{length-set}
 use Rattle.cc_meaning.specs.declared.value.Object.{Object}
-use Rattle.cc_meaning.specs.declared.value.Value.{Value}
 use Rattle.cc_meaning_world.specs.Changes.{put_in}
-use Rattle.cc_world.specs.Shapes.{values_in, values_of}
+use Rattle.cc_world.specs.Shapes.{values_in}
 use Rattle.cc_world.specs.Flat.{Stored, span, formed, object_in}
 use Rattle.cc_world.proofs.Flat.{laid_other, slot_written}
 use Rattle.cc_world.proofs.Heaps.{has_values, head_read, object_read, slot_put, none_elsewhere, written}

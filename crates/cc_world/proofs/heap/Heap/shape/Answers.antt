@@ -1,4 +1,4 @@
-use Rattle.std.proofs.Common.{◌≡◌, ◌<◌, ◌^◌, ℕ, length, Some, ap, sym, ◌∙◌, arith}
+use Rattle.std.proofs.Common.{◌<◌, ◌^◌, ℕ, length, Some, ap, sym, ◌∙◌, arith}
 use Rattle.cc_world.specs.declared.heap.Head.{Head}
 use Rattle.cc_world.specs.declared.shape.Shape.TheVariants as shape
 use Rattle.cc_world.specs.Shapes.{shape_of}
