@@ -1,9 +1,9 @@
 //! Outside exceptions: each is thrown and caught, and only what is below it fits it.
 
+use cc_builder::DexBuilder;
 use cc_check::{CheckFault, Summary, check_bytes};
 use cc_meaning::fault::VerifyFault;
 use cc_meaning::instruction::How;
-use cc_meaning::lists::Bytes;
 use cc_test_programs::{
     AssemblyFault, Member, ProgramCode, ProgramTry, Step, build, class_of, code, function, main_of,
 };
@@ -59,46 +59,58 @@ const THROWS: ProgramCode<'static> = ProgramCode {
 };
 
 /// Hands a text to a method that takes an exception.
-const HANDS_A_TEXT: [Step<'static>; 3] = [
-    Step::Text(0, "t"),
-    Step::Invoke(How::Static, &[0], TAKE_FOO),
-    Step::ReturnVoid,
-];
-
-/// Hands an exception to it.
-const HANDS_AN_EXCEPTION: [Step<'static>; 4] = [
-    Step::New(0, FOO),
-    Step::Invoke(How::Direct, &[0], MAKE_FOO),
-    Step::Invoke(How::Static, &[0], TAKE_FOO),
-    Step::ReturnVoid,
-];
-
-/// A method that takes an exception.
-const TAKE: ProgramCode<'static> = ProgramCode {
+const HANDS_A_TEXT: ProgramCode<'static> = ProgramCode {
     registers: 2,
     labels: 0,
-    steps: &[Step::ReturnVoid],
+    steps: &[
+        Step::Text(0, "t"),
+        Step::Invoke(How::Static, &[0], TAKE_FOO),
+        Step::ReturnVoid,
+    ],
     tries: &[],
 };
 
-/// A file of class A, with this `main` and with a method that takes an exception.
-fn file<'a>(
-    alloc: Global,
-    main: ProgramCode<'a>,
-    take: ProgramCode<'a>,
-) -> Result<Bytes, AssemblyFault> {
-    let take = function("take", "(Lx/FooException;)V", take);
-    let methods = [main_of(main), take];
-    let class = class_of("LA;", &methods);
-    let builder = build(alloc, &[class])?;
-    let bytes = builder.finish()?;
-    Ok(bytes)
+/// Hands an exception to it.
+const HANDS_AN_EXCEPTION: ProgramCode<'static> = ProgramCode {
+    registers: 2,
+    labels: 0,
+    steps: &[
+        Step::New(0, FOO),
+        Step::Invoke(How::Direct, &[0], MAKE_FOO),
+        Step::Invoke(How::Static, &[0], TAKE_FOO),
+        Step::ReturnVoid,
+    ],
+    tries: &[],
+};
+
+/// What a method that takes an exception is given and gives.
+const OF_FOO: &str = "(Lx/FooException;)V";
+
+/// Class A, whose `main` throws an exception and catches it.
+fn throws(alloc: Global) -> Result<DexBuilder, AssemblyFault> {
+    let take = code(2, 0, &[Step::ReturnVoid]);
+    let methods = [main_of(THROWS), function("take", OF_FOO, take)];
+    build(alloc, &[class_of("LA;", &methods)])
+}
+
+/// Class A, whose `main` hands an exception to a method that takes one.
+fn hands_an_exception(alloc: Global) -> Result<DexBuilder, AssemblyFault> {
+    let take = code(2, 0, &[Step::ReturnVoid]);
+    let methods = [main_of(HANDS_AN_EXCEPTION), function("take", OF_FOO, take)];
+    build(alloc, &[class_of("LA;", &methods)])
+}
+
+/// Class A, whose `main` hands a text to it.
+fn hands_a_text(alloc: Global) -> Result<DexBuilder, AssemblyFault> {
+    let take = code(2, 0, &[Step::ReturnVoid]);
+    let methods = [main_of(HANDS_A_TEXT), function("take", OF_FOO, take)];
+    build(alloc, &[class_of("LA;", &methods)])
 }
 
 #[test]
 fn passes_a_throw(rt: HostRuntime) -> Result<(), Fail> {
     let alloc = rt.alloc();
-    let file = file(alloc, THROWS, TAKE)?;
+    let file = throws(alloc)?.finish()?;
     let found = Summary {
         classes: 1,
         methods: 2,
@@ -111,7 +123,7 @@ fn passes_a_throw(rt: HostRuntime) -> Result<(), Fail> {
 #[test]
 fn passes_an_exception_as_argument(rt: HostRuntime) -> Result<(), Fail> {
     let alloc = rt.alloc();
-    let file = file(alloc, code(2, 0, &HANDS_AN_EXCEPTION), TAKE)?;
+    let file = hands_an_exception(alloc)?.finish()?;
     assert!(rt; check_bytes(alloc, file.as_slice(), None).is_ok());
     Ok(())
 }
@@ -120,7 +132,7 @@ fn passes_an_exception_as_argument(rt: HostRuntime) -> Result<(), Fail> {
 #[test]
 fn refuses_a_text_as_argument(rt: HostRuntime) -> Result<(), Fail> {
     let alloc = rt.alloc();
-    let file = file(alloc, code(2, 0, &HANDS_A_TEXT), TAKE)?;
+    let file = hands_a_text(alloc)?.finish()?;
     let found = check_bytes(alloc, file.as_slice(), None);
     let Err(CheckFault::Verify { fault, .. }) = found else {
         return Err("verified")?;
