@@ -17,7 +17,7 @@ use Rattle.cc_meaning_migration.specs.declared.image.Version.{Version}
 use Rattle.cc_meaning_offload.specs.Jobs.{IsRead}
 use Rattle.cc_meaning_offload.specs.Clones.{AreAnswers}
 use Rattle.cc_meaning_offload.specs.Received.{version_of_ready, Offloaded, offloaded}
-use Rattle.cc_meaning_offload.specs.Exchanges.{requests, IsExchange}
+use Rattle.cc_meaning_offload.specs.Exchanges.{hello_bytes, requests, IsExchange}
 
 -- whether a partition moves a method
 unfoldable pub moves_of : Partition → ℕ → Bool
