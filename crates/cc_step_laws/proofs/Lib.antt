@@ -1,0 +1,7 @@
+mod Kept
+mod Bounds
+mod Keeps
+mod Weights
+mod Traces
+mod Conserves
+mod Carried
