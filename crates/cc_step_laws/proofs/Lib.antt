@@ -5,3 +5,4 @@ mod Weights
 mod Traces
 mod Conserves
 mod Carried
+mod Words

@@ -48,3 +48,11 @@ pub fn law_progress()
 pub fn law_spends()
     ensures { (script : Script) (p : Program) → LeadsSpend script p }
 {}
+
+ghost use Rattle.cc_meaning_exec.specs.Laws.{ActConserves, HookConserves, Conserves};
+
+/// What a world has left of words, and what its objects and events take, have one sum throughout.
+pub fn law_conserves<T>()
+    ensures acts { (script : Script) (p : Program) → ActConserves script p }
+    ensures methods { (hook : Hook T) (script : Script) (p : Program) → HookConserves hook → Conserves hook script p }
+{}
