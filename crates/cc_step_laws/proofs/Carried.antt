@@ -6,13 +6,13 @@ use Rattle.cc_meaning.specs.declared.value.Value.{Value}
 use Rattle.cc_meaning.specs.BuiltIn.{exception_in_initializer_error_name, no_class_def_found_error_name, stack_overflow_error_name}
 use Rattle.cc_meaning_world.specs.World.{World, Stack}
 use Rattle.cc_meaning_world.specs.Changes.{with_instructions, with_status, with_statuses}
-use Rattle.cc_meaning_world.specs.Acts.{Act, Outcome, Next, Enter, Returns, Throws, Stops, Stuck, Reached, run_act}
+use Rattle.cc_meaning_world.specs.Acts.{Act, Outcome, Next, Enter, Returns, Throws, Stops, Stuck, run_act}
 use Rattle.cc_meaning_world.specs.Throwing.{throw_new}
 use Rattle.cc_meaning_exec.specs.Instructions.{act_at}
 use Rattle.cc_meaning_exec.specs.Frames.{Frame, room_for}
 use Rattle.cc_meaning_exec.specs.Exceptions.{End, Returned, Thrown, Stopped, Jammed, Raised, raised_by, new_exception, overflow, handler_for}
-use Rattle.cc_meaning_exec.specs.Starts.{Climbed, starting, failed, all_failed, values_act, put_statics, initialiser_of, is_error_in, wrapped_if, wrapped, with_failed, failed_with, all_fail, start_failed, start_refused}
-use Rattle.cc_meaning_exec.specs.Eval.{Ran, ran, Reply, Here, Answer, Hook, Go, caught, thrown, failing, resume, told, as_ran, body_if, body, replied, call, after, told_calls, after_acts, acts_at, Fails, initialised, initialise, valued, valued_in, starts, started, opened_if, opened, turn, eval_with}
+use Rattle.cc_meaning_exec.specs.Starts.{Climbed, starting, failed, values_act, put_statics, initialiser_of, is_error_in, wrapped_if, wrapped, with_failed, failed_with, all_fail, start_failed, start_refused}
+use Rattle.cc_meaning_exec.specs.Eval.{Ran, ran, Reply, Here, Answer, Hook, Go, caught, thrown, failing, resume, told, as_ran, body_if, body, replied, call, after, after_acts, acts_at, Fails, initialised, initialise, valued, valued_in, starts, started, opened_if, opened, turn, eval_with}
 
 -- what is carried on: by doing nothing, by one step behind another, by the steps of an act, by spending an instruction, and by statuses that change
 pub record Carries (script : Script) (p : Program) (R : World → World → Type 0) : Type 0 where

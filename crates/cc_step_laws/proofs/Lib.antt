@@ -6,3 +6,4 @@ mod Traces
 mod Conserves
 mod Carried
 mod Words
+mod Cursors

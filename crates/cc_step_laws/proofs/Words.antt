@@ -1,5 +1,5 @@
 -- What a world has left of words, and what its objects and events take, have one sum throughout.
-use Rattle.std.proofs.Common.{◌≡◌, ℕ, zero, suc, ◌+◌, ◌<◌, List, [], ◌∷◌, ◌++◌, Bool, true, false, Option, Some, None, refl, sym, ap, ◌∙◌, arith, cond, nat_lt, slice_get, slice_set, length, sum_by}
+use Rattle.std.proofs.Common.{◌≡◌, ℕ, zero, suc, ◌+◌, List, [], ◌∷◌, ◌++◌, Bool, true, false, Option, Some, None, refl, sym, ap, ◌∙◌, arith, cond, nat_lt, slice_get, slice_set, length, sum_by}
 use Rattle.std.proofs.lemmas.List.{length-append}
 use Rattle.std.proofs.lemmas.List.Sums.{sum_by-cons, sum_by_push}
 use Rattle.cc_meaning.specs.declared.program.Program.{Program}
@@ -13,16 +13,15 @@ use Rattle.cc_meaning.specs.declared.value.Object.{Object}
 use Rattle.cc_meaning.specs.declared.value.Object.TheVariants as object
 use Rattle.cc_meaning.specs.declared.value.Value.{Value}
 use Rattle.cc_meaning.specs.Words.{words_of, words_of_event}
-use Rattle.cc_meaning_world.specs.World.{World, Stack}
+use Rattle.cc_meaning_world.specs.World.{World}
 use Rattle.cc_meaning_world.specs.Layouts.{new_object}
 use Rattle.cc_meaning_world.specs.Changes.{less_by, with_instructions, with_words, with_statuses, with_object, with_object_at, values_set, rebuilt, with_value, put_in, more_units, with_static, number_for, with_literal, with_constant, with_event, cursor_at, with_answer}
 use Rattle.cc_meaning_world.specs.Scripts.{class_asked, free_answer, NextAnswer, Gives, Ended, Other, next_answer}
 use Rattle.cc_meaning_world.specs.Recorded.{args_of, made_by, words_made, words_recorded}
 use Rattle.cc_meaning_world.specs.Acts.{Act, Done, Make, Look, ClassOf, Put, Append, GetStatic, PutStatic, Literal, ClassConstant, Ask, Tell, Reached, arrived, pay, paying, found, noted, units_of, or_make, given, freely, answered, asked, run_act}
-use Rattle.cc_meaning_exec.specs.Frames.{Frame}
-use Rattle.cc_meaning_exec.specs.Eval.{Ran, ran, Reply, Here, Answer as Taken, Hook, eval_with}
+use Rattle.cc_meaning_exec.specs.Eval.{Ran, ran, Reply, Here, Answer as Taken, Hook}
 use Rattle.cc_meaning_exec.specs.Laws.{words_held, KeepsWords, HookConserves, ActConserves, Conserves, ran_world}
-use Rattle.cc_step_laws.proofs.Carried.{Carries, ReplyCarries, HookCarries, Comes, eval_comes}
+use Rattle.cc_step_laws.proofs.Carried.{Carries, ReplyCarries, Comes, eval_comes}
 
 -- ---- sums
 

@@ -56,3 +56,10 @@ pub fn law_conserves<T>()
     ensures acts { (script : Script) (p : Program) → ActConserves script p }
     ensures methods { (hook : Hook T) (script : Script) (p : Program) → HookConserves hook → Conserves hook script p }
 {}
+
+ghost use Rattle.cc_meaning_exec.specs.Laws.{HookFollows, CursorsFollow};
+
+/// The cursors of a run advance by its recorded calls alone.
+pub fn law_cursors<T>()
+    ensures { (hook : Hook T) (script : Script) (p : Program) → HookFollows hook p → CursorsFollow hook script p }
+{}
