@@ -6,3 +6,7 @@ pub mod Throwables
 pub mod Types
 pub mod RowTexts
 pub mod Signatures
+pub mod Texts
+pub mod Mains
+pub mod Stated
+pub mod Linked
