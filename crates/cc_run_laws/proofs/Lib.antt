@@ -10,3 +10,4 @@ pub mod Texts
 pub mod Mains
 pub mod Stated
 pub mod Linked
+pub mod Laws

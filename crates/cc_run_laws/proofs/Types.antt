@@ -64,7 +64,7 @@ more_brackets zero name e = e
 more_brackets (suc n) name e = let r = more_brackets n name e in (ap suc r.0, r.1)
 
 -- what stands behind the brackets has none in front
-behind_begins : (name : List ℕ) → begins_with 91 (behind_brackets name) ≡ true → ⊥
+pub behind_begins : (name : List ℕ) → begins_with 91 (behind_brackets name) ≡ true → ⊥
 unfolding behind_brackets
 behind_begins [] e = cc
 behind_begins (u ∷ us) e = by (eqb u 91) refl e (behind_begins us)

@@ -1,15 +1,35 @@
-//! That what soundness takes of a program and a script follows from the bytes of a file and what is read of a script.
+//! That what soundness takes of a program and a script follows from the bytes of a file and from what is read of a script.
 #![tactic(auto)]
 
-ghost use Rattle.cc_run_laws.specs.Laws.{SpelledProgramsAreLinked};
+ghost use Rattle.cc_run_laws.specs.Laws.{SpelledMainFits, SpelledOutFits, SpelledProgramsAreLinked};
 
 use cc_program_laws::{
     programs_are_complete, spelled_classes_fit, spelled_parts_are_bounded, spelled_tables_fit,
 };
 
-/// The program that a file spells is linked.
+/// The program that a file spells is linked: what its classes, fields and methods name is what the meaning of a run takes it for.
 pub fn law_linked()
     ensures { SpelledProgramsAreLinked }
+{
+    spelled_tables_fit();
+    spelled_classes_fit();
+    spelled_parts_are_bounded();
+    programs_are_complete();
+}
+
+/// The field of the standard output, in the program that a file spells, has the type of the stream.
+pub fn law_out()
+    ensures { SpelledOutFits }
+{
+    spelled_tables_fit();
+    spelled_classes_fit();
+    spelled_parts_are_bounded();
+    programs_are_complete();
+}
+
+/// The main method of the program that a file spells takes an array of texts.
+pub fn law_main()
+    ensures { SpelledMainFits }
 {
     spelled_tables_fit();
     spelled_classes_fit();
