@@ -1,13 +1,12 @@
 -- The built-in classes of a complete program: each is there, held as itself, and its superclasses are those of the table.
-use Rattle.std.proofs.Common.{unwrap_or, ◌≡◌, ◌≢◌, ◌⊎◌, inl, inr, ℕ, zero, suc, Bool, true, false, ◌&&◌, not, cond, List, [], ◌∷◌, Option, Some, None, refl, sym, ap, ◌∙◌, subst, slice_get}
-use Rattle.std.specs.Prelude.{find, position, option_and_then}
-use Rattle.std.specs.List.{list_all}
+use Rattle.std.proofs.Common.{unwrap_or, ◌≡◌, ◌≢◌, ◌⊎◌, inl, inr, ℕ, Bool, true, false, ◌&&◌, not, List, Option, Some, None, refl, sym, ap, ◌∙◌, subst, slice_get}
+use Rattle.std.specs.Prelude.{option_and_then}
 use Rattle.std.specs.Str.{bytes_eq}
 use Rattle.cc_meaning.specs.declared.program.Class.{Class}
 use Rattle.cc_meaning.specs.declared.program.ClassKind.{ClassKind}
 use Rattle.cc_meaning.specs.declared.program.ClassKind.TheVariants as origin
 use Rattle.cc_meaning.specs.declared.program.Program.{Program}
-use Rattle.cc_meaning.specs.BuiltIn.{BuiltInClass, built_in_plain_classes, built_in_throwables, built_in_classes, built_in_class, built_in_superclass, is_built_in, object_name, string_name, string_builder_name, print_stream_name, throwable_name, exception_name, error_name}
+use Rattle.cc_meaning.specs.BuiltIn.{built_in_superclass, is_built_in, object_name, string_name, string_builder_name, print_stream_name, throwable_name, exception_name, error_name}
 use Rattle.cc_meaning.specs.Lookup.{class_named}
 use Rattle.cc_meaning_typing.specs.Complete.{IsComplete, IsOpen}
 use Rattle.cc_meaning_typing.specs.Hierarchy.{superclass_in, superclass_of, object_class, Inherits, itself, further}
@@ -16,7 +15,7 @@ use Rattle.cc_meaning_typing.specs.Code.{type_of_kind, type_of_found, type_of_cl
 use Rattle.cc_meaning_typing.specs.WellTyped.{is_of_file, is_file_class, is_file_interface}
 use Rattle.cc_meaning_fits.specs.Premises.{IsPlain, object_itself, string, string_builder, print_stream}
 use Rattle.cc_meaning_world.specs.Sorts.{number_of}
-use Rattle.cc_program_laws.proofs.Lists.{same_bytes, bytes_same, some_same, found_is, position_is}
+use Rattle.cc_program_laws.proofs.Lists.{same_bytes, bytes_same, some_same, position_is}
 use Rattle.cc_program_laws.proofs.Names.{object_in, throwable_in, exception_in, error_in}
 use Rattle.cc_run_laws.proofs.BuiltNames.{above_built_in, above_is_open, string_in, builder_in, stream_in, string_above, builder_above, stream_above}
 

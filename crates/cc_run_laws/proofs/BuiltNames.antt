@@ -1,9 +1,9 @@
 -- What the table of built-in classes says, computed.
-use Rattle.std.proofs.Common.{◌≡◌, ℕ, zero, suc, Bool, true, false, ◌&&◌, cond, List, [], ◌∷◌, Option, Some, None, refl, sym, ap, ◌∙◌, subst, slice_get}
-use Rattle.std.specs.Prelude.{find, not, option_and_then}
+use Rattle.std.proofs.Common.{◌≡◌, ℕ, zero, suc, Bool, true, false, ◌&&◌, ◌||◌, List, [], ◌∷◌, Option, Some, None, refl, sym, ap, ◌∙◌, subst, slice_get}
+use Rattle.std.specs.Prelude.{not, option_and_then}
 use Rattle.std.specs.List.{list_all}
 use Rattle.std.specs.Str.{bytes_eq}
-use Rattle.cc_meaning.specs.BuiltIn.{BuiltInClass, built_in_plain_classes, built_in_throwables, built_in_classes, built_in_class, built_in_superclass, is_built_in, object_name, string_name, string_builder_name, system_name, print_stream_name, throwable_name, exception_name, error_name, runtime_exception_name, arithmetic_exception_name, null_pointer_exception_name, array_store_exception_name, class_cast_exception_name, index_out_of_bounds_exception_name, negative_array_size_exception_name, illegal_argument_exception_name, illegal_state_exception_name, array_index_out_of_bounds_exception_name, string_index_out_of_bounds_exception_name, linkage_error_name, virtual_machine_error_name, no_class_def_found_error_name, exception_in_initializer_error_name, incompatible_class_change_error_name, abstract_method_error_name, stack_overflow_error_name}
+use Rattle.cc_meaning.specs.BuiltIn.{BuiltInClass, built_in_plain_classes, built_in_throwables, built_in_classes, built_in_class, built_in_superclass, is_built_in, is_built_in_throwable, object_name, string_name, string_builder_name, system_name, print_stream_name, throwable_name, exception_name, error_name, runtime_exception_name, arithmetic_exception_name, null_pointer_exception_name, array_store_exception_name, class_cast_exception_name, index_out_of_bounds_exception_name, negative_array_size_exception_name, illegal_argument_exception_name, illegal_state_exception_name, array_index_out_of_bounds_exception_name, string_index_out_of_bounds_exception_name, linkage_error_name, virtual_machine_error_name, no_class_def_found_error_name, exception_in_initializer_error_name, incompatible_class_change_error_name, abstract_method_error_name, stack_overflow_error_name}
 use Rattle.cc_meaning_dex.specs.Descriptors.{names_class}
 use Rattle.cc_program_laws.proofs.Lists.{same_bytes, some_same, found_is}
 use Rattle.cc_program_laws.proofs.Names.{any_found}
@@ -94,3 +94,19 @@ built_in_begins name e =
     let one = any_found (λ (c : BuiltInClass). bytes_eq c.name name) built_in_classes e in
     let found = found_is (λ (c : BuiltInClass). bytes_eq c.name name) built_in_classes one.0 one.1 in
     subst (λ n. names_class n ≡ true) (same_bytes one.0.name name found.0) (all_at (λ (c : BuiltInClass). names_class c.name) built_in_classes found.1.0 one.0 all_classes found.1.1)
+
+-- whether a class of this name has no instances of its own
+unfoldable pub never_made : List ℕ → Bool
+never_made name = bytes_eq name string_name || (bytes_eq name system_name || bytes_eq name print_stream_name)
+
+-- each throwable of the table is a built-in class that has instances
+all_throwables : list_all (λ (class : BuiltInClass). is_built_in class.name && not (never_made class.name)) built_in_throwables ≡ true
+unfolding never_made built_in_classes built_in_plain_classes built_in_throwables object_name string_name string_builder_name system_name print_stream_name throwable_name exception_name error_name runtime_exception_name arithmetic_exception_name null_pointer_exception_name array_store_exception_name class_cast_exception_name index_out_of_bounds_exception_name negative_array_size_exception_name illegal_argument_exception_name illegal_state_exception_name array_index_out_of_bounds_exception_name string_index_out_of_bounds_exception_name linkage_error_name virtual_machine_error_name no_class_def_found_error_name exception_in_initializer_error_name incompatible_class_change_error_name abstract_method_error_name stack_overflow_error_name
+all_throwables = refl
+
+pub throwable_is : (name : List ℕ) → is_built_in_throwable name ≡ true → (is_built_in name ≡ true) × (never_made name ≡ false)
+throwable_is name e =
+    let one = any_found (λ (c : BuiltInClass). bytes_eq c.name name) built_in_throwables e in
+    let found = found_is (λ (c : BuiltInClass). bytes_eq c.name name) built_in_throwables one.0 one.1 in
+    let two = both_true (is_built_in one.0.name) (not (never_made one.0.name)) (all_at (λ (c : BuiltInClass). is_built_in c.name && not (never_made c.name)) built_in_throwables found.1.0 one.0 all_throwables found.1.1) in
+    subst (λ n. (is_built_in n ≡ true) × (never_made n ≡ false)) (same_bytes one.0.name name found.0) (two.0, not_true (never_made one.0.name) two.1)

@@ -1,6 +1,6 @@
 -- The layouts of a file's classes: those of built-in classes are empty, and a field of instances has its place in each class below its own.
-use Rattle.std.proofs.Common.{◌≡◌, ◌≢◌, ◌⊎◌, inl, inr, ℕ, zero, suc, ◌+◌, ◌<◌, Bool, true, false, not, ◌&&◌, ◌||◌, cond, List, [], ◌∷◌, ◌++◌, length, Option, Some, None, position, refl, sym, ap, ◌∙◌, subst, arith, slice_get}
-use Rattle.std.specs.Prelude.{reverse, ◌==◌, find, option_and_then, option_map, is_some}
+use Rattle.std.proofs.Common.{◌≡◌, inl, inr, ℕ, zero, suc, ◌+◌, ◌<◌, Bool, true, false, not, ◌&&◌, ◌||◌, cond, List, [], ◌∷◌, ◌++◌, length, Option, Some, None, position, refl, sym, ap, ◌∙◌, subst, arith, slice_get}
+use Rattle.std.specs.Prelude.{reverse, ◌==◌, option_and_then, option_map}
 use Rattle.std.specs.List.{flat_map}
 use Rattle.std.specs.Str.{bytes_eq}
 use Rattle.std.proofs.lemmas.Option.{slice_get_within}
@@ -37,7 +37,7 @@ use Rattle.cc_program_laws.proofs.Lists.{same_bytes, some_same, position_is, map
 use Rattle.cc_program_laws.proofs.Origins.{defined_kind}
 use Rattle.cc_program_laws.proofs.Standing.{built_in_kind}
 use Rattle.cc_run_laws.proofs.BuiltNames.{above_built_in}
-use Rattle.cc_run_laws.proofs.Built.{IsBuilt, built, called_so, above_is}
+use Rattle.cc_run_laws.proofs.Built.{built, called_so, above_is}
 use Rattle.cc_run_laws.proofs.Members.{In, in_reverse, reverse_in, in_flat, flat_in, none_in, number_there}
 
 pub both_true : (a b : Bool) → (a && b) ≡ true → (a ≡ true) × (b ≡ true)
@@ -229,8 +229,8 @@ module _ (ids : Ids) (classes : List RawClass) (asked : Option (List ℕ)) (p : 
       let each = is.each_class (number_of p name) one.class one.there in
       let ancestry : Ancestry ids name each.ancestors = subst (λ n. Ancestry ids n each.ancestors) one.called each.ancestry in
       ap layout_in one.there ∙ (each.layout ∙ none_in (flat_map (fields_of p false) (reverse each.ancestors)) (λ f h.
-          let x = in_flat (fields_of p false) (reverse each.ancestors) f h in
-          no_instance_field x.0 f (all_built name each.ancestors x.0 ancestry b (in_reverse x.0 each.ancestors x.1)) x.2))
+      let x = in_flat (fields_of p false) (reverse each.ancestors) f h in
+      no_instance_field x.0 f (all_built name each.ancestors x.0 ancestry b (in_reverse x.0 each.ancestors x.1)) x.2))
 
   -- ---- slots
 

@@ -11,3 +11,4 @@ pub mod Mains
 pub mod Stated
 pub mod Linked
 pub mod Laws
+pub mod Scripts

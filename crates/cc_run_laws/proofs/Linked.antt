@@ -1,5 +1,5 @@
 -- The program of a file is linked.
-use Rattle.std.proofs.Common.{◌≡◌, ◌≢◌, ℕ, zero, suc, ◌<◌, Bool, true, false, cond, List, [], ◌∷◌, length, Option, Some, None, refl, sym, ap, ◌∙◌, subst, slice_get, slice_index_or, arith}
+use Rattle.std.proofs.Common.{◌≡◌, ◌≢◌, ℕ, zero, suc, ◌<◌, Bool, true, false, cond, List, [], ◌∷◌, Option, Some, None, refl, sym, ap, ◌∙◌, subst, slice_get, slice_index_or, arith}
 use Rattle.std.specs.Prelude.{All, unwrap_or, codes}
 use Rattle.std.specs.Str.{bytes_eq}
 use Rattle.std.specs.Cmp.Lexicographic.{slice_cmp}
@@ -11,7 +11,6 @@ use Rattle.cc_meaning.specs.declared.file.Ids.{Ids}
 use Rattle.cc_meaning.specs.declared.file.RawClass.{RawClass}
 use Rattle.cc_meaning.specs.declared.instruction.Insn.{Insn}
 use Rattle.cc_meaning.specs.declared.instruction.Insn.TheVariants as insn
-use Rattle.cc_meaning.specs.declared.instruction.TypeRef.{TypeRef}
 use Rattle.cc_meaning.specs.declared.instruction.TypeRef.TheVariants as type
 use Rattle.cc_meaning.specs.declared.program.Base.{Base}
 use Rattle.cc_meaning.specs.declared.program.Base.TheVariants as base
@@ -26,18 +25,17 @@ use Rattle.cc_meaning.specs.declared.program.Placed.{Placed}
 use Rattle.cc_meaning.specs.declared.program.Program.{Program}
 use Rattle.cc_meaning.specs.BuiltIn.{object_name, string_name, string_builder_name, print_stream_name, throwable_name}
 use Rattle.cc_meaning.specs.Lookup.{class_named}
-use Rattle.cc_meaning.specs.Names.{descriptor}
 use Rattle.cc_meaning_dex.specs.Classes.{SpellsClasses}
 use Rattle.cc_meaning_dex.specs.Descriptors.{begins_with, names_class}
 use Rattle.cc_meaning_program.specs.ClassFaults.{AreSound}
 use Rattle.cc_meaning_program.specs.Programs.{IsProgram}
 use Rattle.cc_meaning_program.specs.Rows.{FitTables}
 use Rattle.cc_meaning_typing.specs.Complete.{IsComplete, BaseStands, NamedStands, InsnStands}
-use Rattle.cc_meaning_typing.specs.Code.{is_array_of, is_array, brackets, behind_brackets, base_of, type_of_kind, type_of_found, type_of_class}
+use Rattle.cc_meaning_typing.specs.Code.{is_array_of, is_array, behind_brackets, base_of, type_of_kind, type_of_found, type_of_class}
 use Rattle.cc_meaning_typing.specs.Hierarchy.{superclass_of, object_class}
-use Rattle.cc_meaning_typing.specs.Types.{typed, class_type}
+use Rattle.cc_meaning_typing.specs.Types.{class_type}
 use Rattle.cc_meaning_exec.specs.Arrays.{array_class}
-use Rattle.cc_meaning_fits.specs.Premises.{MadeType, ArrayNamed, MakesNamed, IsPlain, object_itself, string, string_builder, print_stream, IsLinked}
+use Rattle.cc_meaning_fits.specs.Premises.{MadeType, ArrayNamed, MakesNamed, IsLinked}
 use Rattle.cc_meaning_world.specs.Sorts.{number_of}
 use Rattle.cc_program_laws.proofs.Lists.{some_same, bytes_same, at_place}
 use Rattle.cc_program_laws.proofs.Names.{object_in, throwable_in}
@@ -49,7 +47,7 @@ use Rattle.cc_run_laws.proofs.Mains.{initialisers}
 use Rattle.cc_run_laws.proofs.Signatures.{rows}
 use Rattle.cc_run_laws.proofs.Stated.{stated}
 use Rattle.cc_run_laws.proofs.Throwables.{raised}
-use Rattle.cc_run_laws.proofs.Types.{two_firsts, behind_begins, array_is, class_begins}
+use Rattle.cc_run_laws.proofs.Types.{two_firsts, behind_begins, array_is}
 
 true_or_false : true ≡ false → ⊥
 true_or_false e = cc

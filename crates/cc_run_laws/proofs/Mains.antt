@@ -1,43 +1,39 @@
 -- The methods and the field of a file's program that have names of their own: `main`, initialisers, and `System.out`.
-use Rattle.std.proofs.Common.{unwrap_or, ◌≡◌, ◌≢◌, ◌⊎◌, inl, inr, ℕ, zero, suc, ◌<◌, ◌≤◌, Bool, true, false, ◌||◌, ◌&&◌, cond, List, [], ◌∷◌, ◌++◌, length, map, Option, Some, None, refl, sym, ap, ◌∙◌, subst, arith, slice_get}
+use Rattle.std.proofs.Common.{unwrap_or, ◌≡◌, inl, inr, ℕ, ◌<◌, Bool, true, false, ◌||◌, cond, List, [], ◌∷◌, ◌++◌, length, map, Option, Some, None, refl, sym, ap, ◌∙◌, subst, arith, slice_get}
 use Rattle.std.specs.Prelude.{codes, option_and_then, Contains}
 use Rattle.std.specs.List.{flat_map}
 use Rattle.std.specs.Str.{bytes_eq}
-use Rattle.std.proofs.lemmas.List.{append_assoc}
 use Rattle.std.proofs.lemmas.Option.{slice_get_within}
 use Rattle.cc_meaning.specs.declared.file.Ids.{Ids}
 use Rattle.cc_meaning.specs.declared.file.RawClass.{RawClass}
-use Rattle.cc_meaning.specs.declared.file.RawMethod.{RawMethod}
-use Rattle.cc_meaning.specs.declared.program.Base.TheVariants as base
 use Rattle.cc_meaning.specs.declared.program.Class.{Class}
 use Rattle.cc_meaning.specs.declared.program.ClassKind.TheVariants as origin
 use Rattle.cc_meaning.specs.declared.program.Code.{Code}
-use Rattle.cc_meaning.specs.declared.program.DexType.{DexType}
 use Rattle.cc_meaning.specs.declared.program.Field.{Field}
 use Rattle.cc_meaning.specs.declared.program.Method.{Method}
 use Rattle.cc_meaning.specs.declared.program.MethodKind.{MethodKind}
 use Rattle.cc_meaning.specs.declared.program.MethodKind.TheVariants as kinds
 use Rattle.cc_meaning.specs.declared.program.Program.{Program}
-use Rattle.cc_meaning.specs.BuiltIn.{is_built_in, system_name, out_name, print_stream_name, string_name, system_out_name}
+use Rattle.cc_meaning.specs.BuiltIn.{system_name, out_name, print_stream_name, string_name, system_out_name}
 use Rattle.cc_meaning.specs.Lookup.{class_named, method_named}
 use Rattle.cc_meaning.specs.Names.{name_or_none, class_name, descriptor, result_descriptor, member_name, method_name, field_name}
-use Rattle.cc_meaning_dex.specs.Descriptors.{begins_with, names_class, names_reference, names_value, IsDescriptor, IsValueDescriptor}
+use Rattle.cc_meaning_dex.specs.Descriptors.{begins_with, names_reference, names_value, IsDescriptor}
 use Rattle.cc_meaning_program.specs.Ancestry.{kind_of_class}
 use Rattle.cc_meaning_program.specs.ClassFaults.{AreSound}
 use Rattle.cc_meaning_program.specs.ClassNames.{texts_name, IsClassName}
 use Rattle.cc_meaning_program.specs.Laws.{AreDescriptors}
-use Rattle.cc_meaning_program.specs.Members.{Pairs, ResultSpelled, KindResolved, IsNamedBy, IsMethod, IsField, out_member}
+use Rattle.cc_meaning_program.specs.Members.{Pairs, IsNamedBy, IsMethod, IsField, out_member}
 use Rattle.cc_meaning_program.specs.Named.{type_name}
 use Rattle.cc_meaning_program.specs.Programs.{IsProgram, IsMainClass, HasMain, main_member, has_code, is_run, static_with_code}
 use Rattle.cc_meaning_program.specs.Resolved.{names_of, whole_name}
 use Rattle.cc_meaning_program.specs.Rows.{FitTables, IsTypeRow}
-use Rattle.cc_meaning_program.specs.TypeNames.{Spells, type_spelled, base_spelled}
+use Rattle.cc_meaning_program.specs.TypeNames.{Spells, type_spelled}
 use Rattle.cc_meaning_program.proofs.Leading.{same_class, same_member, class_name_leads}
 use Rattle.cc_meaning_program.proofs.Spelling.{spelled_once}
 use Rattle.cc_meaning_program.proofs.Splitting.{Leads, descriptor_leads}
 use Rattle.cc_meaning_typing.specs.Complete.{IsComplete, BaseStands}
 use Rattle.cc_meaning_typing.specs.Code.{is_array_of, is_array, string_type, type_of_class}
-use Rattle.cc_meaning_typing.specs.Types.{typed, class_type, array_of}
+use Rattle.cc_meaning_typing.specs.Types.{class_type, array_of}
 use Rattle.cc_meaning_exec.specs.Starts.{initialiser_in}
 use Rattle.cc_meaning_fits.specs.Premises.{Initialises, OutFits, MainFits}
 use Rattle.cc_meaning_world.specs.Opening.{texts_class}
@@ -47,7 +43,7 @@ use Rattle.cc_program_laws.proofs.Lists.{same_bytes, some_same, position_is, fou
 use Rattle.cc_program_laws.proofs.Standing.{built_in_kind}
 use Rattle.cc_program_laws.proofs.Totals.{members_found}
 use Rattle.cc_run_laws.proofs.BuiltNames.{string_in, stream_in, system_in}
-use Rattle.cc_run_laws.proofs.Built.{IsBuilt, built, called_so}
+use Rattle.cc_run_laws.proofs.Built.{built, called_so}
 use Rattle.cc_run_laws.proofs.Layouts.{both_true, field_owner_kind}
 use Rattle.cc_run_laws.proofs.Types.{class_spelled, array_is, spells_class}
 use Rattle.cc_run_laws.proofs.Texts.{behind_open, opens, split_open, no_params, one_param}

@@ -1,6 +1,6 @@
 -- Each built-in method of a file's program is a row of the table, with the types that the row's text says.
-use Rattle.std.proofs.Common.{unwrap_or, ◌≡◌, ◌≢◌, ◌⊎◌, inl, inr, ℕ, zero, suc, ◌≤◌, Bool, true, false, cond, List, [], ◌∷◌, ◌++◌, map, replicate, Option, Some, None, refl, sym, ap, ◌∙◌, subst, arith, slice_get, slice_index_or}
-use Rattle.std.specs.Prelude.{codes, find, ◌==◌}
+use Rattle.std.proofs.Common.{unwrap_or, ◌≡◌, ℕ, zero, suc, true, false, cond, List, [], ◌∷◌, ◌++◌, replicate, Option, Some, None, refl, sym, ap, ◌∙◌, subst, slice_get}
+use Rattle.std.specs.Prelude.{codes}
 use Rattle.std.specs.List.{flat_map}
 use Rattle.std.proofs.lemmas.List.{append_assoc}
 use Rattle.std.specs.Str.{bytes_eq}
@@ -34,7 +34,7 @@ use Rattle.cc_meaning_program.proofs.Alike.{descriptor_by_names}
 use Rattle.cc_meaning_typing.specs.Complete.{IsComplete}
 use Rattle.cc_meaning_typing.specs.Code.{string_type, throwable_type, brackets, behind_brackets, base_of, type_of_kind, type_of_found, type_of_class}
 use Rattle.cc_meaning_typing.specs.Hierarchy.{object_class}
-use Rattle.cc_meaning_typing.specs.Types.{typed, class_type, object_type, array_of, held, IsBelow}
+use Rattle.cc_meaning_typing.specs.Types.{typed, class_type, object_type, held, IsBelow}
 use Rattle.cc_meaning_rows.specs.declared.builtin.BuiltIn.{BuiltIn}
 use Rattle.cc_meaning_rows.specs.declared.builtin.BuiltIn.TheVariants as row
 use Rattle.cc_meaning_rows.specs.declared.builtin.Printed.{Printed}
@@ -49,7 +49,7 @@ use Rattle.cc_program_laws.proofs.Standing.{array_begins, built_in_listed}
 use Rattle.cc_run_laws.proofs.BuiltNames.{string_in, builder_in}
 use Rattle.cc_run_laws.proofs.Throwables.{below_as_type}
 use Rattle.cc_run_laws.proofs.Types.{class_spelled, number_spelled}
-use Rattle.cc_run_laws.proofs.RowTexts.{printed_text, Texts, RowSays, row_says}
+use Rattle.cc_run_laws.proofs.RowTexts.{printed_text, Texts, row_says}
 
 -- five lists behind one another
 in_front : (a b c d e : List ℕ) → a ++ b ++ c ++ d ++ e ≡ a ++ (b ++ c ++ d ++ e)
@@ -221,8 +221,14 @@ module _ (ids : Ids) (classes : List RawClass) (asked : Option (List ℕ)) (p : 
             ∙ (ap (λ m. found_row m (rows_of class.kind class.name)) (member_is c l name ps r)
             ∙ (ap (λ z. found_row (built_in_member l) (rows_of z class.name)) kind
             ∙ clone_found l same));
-        signature = (none c.params l.params ps params, a_result object_name (object_type p) object_only refl c.result l.result r result, (typed element.0 (base_of p (behind_brackets class.name)),
-            ap (type_of_found p c.class) there ∙ (ap (λ z. type_of_kind p c.class z class.name) kind ∙ ap (λ d. typed d (base_of p (behind_brackets class.name))) element.1)));
+        signature = (
+          none c.params l.params ps params,
+          a_result object_name (object_type p) object_only refl c.result l.result r result,
+          (
+            typed element.0 (base_of p (behind_brackets class.name)),
+            ap (type_of_found p c.class) there ∙ (ap (λ z. type_of_kind p c.class z class.name) kind ∙ ap (λ d. typed d (base_of p (behind_brackets class.name))) element.1),
+          ),
+        );
         dynamic = dynamic;
       }
     where

@@ -1,11 +1,11 @@
 -- The stated values of a file's classes fit their fields.
-use Rattle.std.proofs.Common.{unwrap_or, ◌≡◌, ◌⊎◌, inl, inr, ℕ, zero, suc, ◌+◌, ◌<◌, ◌≤◌, Bool, true, false, eqb, not, ◌&&◌, ◌||◌, cond, List, [], ◌∷◌, ◌++◌, length, replicate, Option, Some, None, position, refl, sym, ap, ◌∙◌, subst, arith, slice_get, slice_index_or, get_or}
+use Rattle.std.proofs.Common.{unwrap_or, ◌≡◌, inl, inr, ℕ, zero, suc, ◌+◌, ◌<◌, Bool, true, false, ◌&&◌, cond, List, [], ◌∷◌, ◌++◌, length, replicate, Option, Some, None, position, refl, sym, ap, ◌∙◌, subst, arith, slice_get}
 use Rattle.std.specs.Prelude.{◌==◌, codes, find, option_and_then, slice_index, if◌then◌else◌}
 use Rattle.std.specs.Str.{bytes_eq}
 use Rattle.std.proofs.lemmas.Bool.Decides.{Decides-eqb, nat_tests}
 use Rattle.std.proofs.lemmas.List.{append_assoc}
 use Rattle.std.proofs.lemmas.List.Quantifiers.{position-Some}
-use Rattle.std.proofs.lemmas.Option.{slice_get_within, slice_get-get_or, get_or_from_slice_get}
+use Rattle.std.proofs.lemmas.Option.{get_or_from_slice_get}
 use Rattle.cc_meaning.specs.declared.file.ClassRow.{ClassRow}
 use Rattle.cc_meaning.specs.declared.file.FieldRow.{FieldRow}
 use Rattle.cc_meaning.specs.declared.file.Ids.{Ids}
@@ -19,7 +19,6 @@ use Rattle.cc_meaning.specs.declared.program.Class.{Class}
 use Rattle.cc_meaning.specs.declared.program.DexType.{DexType}
 use Rattle.cc_meaning.specs.declared.program.Field.{Field}
 use Rattle.cc_meaning.specs.declared.program.Program.{Program}
-use Rattle.cc_meaning.specs.declared.program.RegType.{RegType}
 use Rattle.cc_meaning.specs.declared.program.RegType.TheVariants as reg
 use Rattle.cc_meaning.specs.declared.program.StaticValue.{StaticValue}
 use Rattle.cc_meaning.specs.declared.program.StaticValue.TheVariants as static
@@ -31,7 +30,7 @@ use Rattle.cc_meaning_dex.specs.Classes.{EachPair, SpellsClass, SpellsClasses}
 use Rattle.cc_meaning_dex.specs.Descriptors.{names_class}
 use Rattle.cc_meaning_dex.specs.Rows.{descriptor_of}
 use Rattle.cc_meaning_dex.specs.Sequences.{Follow, begin, ◌>>=◌}
-use Rattle.cc_meaning_dex.specs.Values.{kind_by, kind_of as value_kind, field_kind, SpellsValue, SpellsSomeValues, ValueStands}
+use Rattle.cc_meaning_dex.specs.Values.{kind_by, kind_of as value_kind, field_kind, SpellsValue, ValueStands}
 use Rattle.cc_meaning_dex.specs.declared.items.Cursor.{Cursor}
 use Rattle.cc_meaning_dex.specs.declared.items.ValueKind.{ValueKind}
 use Rattle.cc_meaning_dex.specs.declared.items.ValueKind.TheVariants as values
@@ -39,12 +38,11 @@ use Rattle.cc_meaning_program.specs.ClassFaults.{AreSound}
 use Rattle.cc_meaning_program.specs.Members.{FieldIsNamedBy, IsField}
 use Rattle.cc_meaning_program.specs.Named.{type_name, field_member}
 use Rattle.cc_meaning_program.specs.OwnMembers.{members_of, field_among, field_defined}
-use Rattle.cc_meaning_program.specs.Programs.{IsProgram, AreValues, ValueIs, ValueResolved, fields_from, fields_of, is_number, same_truth, value_among, value_listed, field_within_class, zero_value, zero_of_field}
+use Rattle.cc_meaning_program.specs.Programs.{IsProgram, ValueIs, ValueResolved, fields_from, fields_of, is_number, same_truth, value_among, value_listed, field_within_class, zero_value, zero_of_field}
 use Rattle.cc_meaning_program.specs.Resolved.{names_of, whole_name}
 use Rattle.cc_meaning_program.specs.Rows.{FitTables}
 use Rattle.cc_meaning_program.specs.TypeNames.{base_spelled, type_spelled, IsBase, Spells}
-use Rattle.cc_meaning_program.proofs.Leading.{same_class, same_member}
-use Rattle.cc_meaning_program.proofs.Splitting.{Leads}
+use Rattle.cc_meaning_program.proofs.Leading.{same_member}
 use Rattle.cc_meaning_typing.specs.Complete.{IsComplete}
 use Rattle.cc_meaning_typing.specs.Code.{string_type}
 use Rattle.cc_meaning_typing.specs.Registers.{register_of_kind, register_of}
@@ -57,7 +55,7 @@ use Rattle.cc_program_laws.proofs.Hierarchy.{numbered}
 use Rattle.cc_program_laws.proofs.Lists.{same_bytes, some_same, position_is, mapped_found}
 use Rattle.cc_run_laws.proofs.BuiltNames.{string_in}
 use Rattle.cc_run_laws.proofs.Built.{called_so}
-use Rattle.cc_run_laws.proofs.Layouts.{DeclaredAt, declared_in, same_number}
+use Rattle.cc_run_laws.proofs.Layouts.{declared_in, same_number}
 use Rattle.cc_run_laws.proofs.Mains.{named_leads}
 use Rattle.cc_run_laws.proofs.Members.{In}
 use Rattle.cc_run_laws.proofs.Types.{class_spelled}
@@ -175,6 +173,13 @@ zero_fits p type = by (kind_of type) refl
     by sort.Char e = ap (register_of_kind p type) e
     by sort.Short e = ap (register_of_kind p type) e
 
+-- an array is a reference
+pub array_register : (p : Program) (n : ℕ) (b : Base) → register_of p (typed (suc n) b) ≡ reg.Reference (held p (typed (suc n) b))
+unfolding register_of register_of_kind
+array_register p n b =
+    let some : (suc n == 0) ≡ false = grind (arith, nat_tests) in
+    ap (λ t. register_of_kind p (typed (suc n) b) (cond t (kind_of_base b) sort.Object)) some
+
 -- ---- a program of a file
 
 module _ (file : List ℕ) (ids : Ids) (classes : List RawClass) (asked : Option (List ℕ)) (p : Program) (spelled : SpellsClasses file ids classes) (fit : FitTables ids) (sound : AreSound ids classes) (is : IsProgram ids classes asked p) (whole : IsComplete p) where
@@ -184,15 +189,9 @@ module _ (file : List ℕ) (ids : Ids) (classes : List RawClass) (asked : Option
   object_fits type text kind s r true b k = subst (Kinded p type) (some_same values.Text kind k) (r, class_spelled ids classes asked p fit sound is whole string_name type string_in (subst (Spells (names_of p) type) (same_bytes text string_name b) s))
   object_fits type text kind s r false b k = subst (Kinded p type) (some_same values.Reference kind k) r
 
-  array_register : (n : ℕ) (b : Base) → register_of p (typed (suc n) b) ≡ reg.Reference (held p (typed (suc n) b))
-  unfolding register_of register_of_kind
-  array_register n b =
-      let some : (suc n == 0) ≡ false = grind (arith, nat_tests) in
-      ap (λ t. register_of_kind p (typed (suc n) b) (cond t (kind_of_base b) sort.Object)) some
-
   by_parts : (n : ℕ) (b : Base) (text : List ℕ) (kind : ValueKind) → text ≡ replicate n 91 ++ base_spelled (names_of p) b → IsBase (names_of p) b → Spells (names_of p) (typed n b) text → value_kind text ≡ Some kind → Kinded p (typed n b) kind
   unfolding base_spelled value_kind register_of register_of_kind
-  by_parts (suc n) b text kind d based s e = object_fits (typed (suc n) b) text kind s (array_register n b) (bytes_eq text string_name) refl (sym (ap (λ f. kind_by f text) (ap (λ z. slice_index z 0) d)) ∙ e)
+  by_parts (suc n) b text kind d based s e = object_fits (typed (suc n) b) text kind s (array_register p n b) (bytes_eq text string_name) refl (sym (ap (λ f. kind_by f text) (ap (λ z. slice_index z 0) d)) ∙ e)
   by_parts zero base.Boolean text kind d based s e = subst (Kinded p (typed 0 base.Boolean)) (some_same values.Boolean kind (sym (ap value_kind d) ∙ e)) refl
   by_parts zero base.Byte text kind d based s e = subst (Kinded p (typed 0 base.Byte)) (some_same values.Byte kind (sym (ap value_kind d) ∙ e)) refl
   by_parts zero base.Short text kind d based s e = subst (Kinded p (typed 0 base.Short)) (some_same values.Short kind (sym (ap value_kind d) ∙ e)) refl
@@ -254,8 +253,8 @@ module _ (file : List ℕ) (ids : Ids) (classes : List RawClass) (asked : Option
       let name : class_name p field.class ≡ c.name = ap name_or_none (ap (slice_get p.classes) of ∙ at) in
       let number = numbered ids classes asked p fit sound is n c.name (mapped_found (λ (z : Class). z.name) p.classes n c at) in
       let full : field_name p field ≡ whole_name c.name (field_within_class p field) =
-          ap (λ o. o ++ codes "->" ++ field.name ++ codes ":" ++ descriptor p field.ty) name
-          ∙ (ap (λ z. z ++ descriptor p field.ty) (append_assoc (c.name ++ codes "->") field.name (codes ":")) ∙ append_assoc (c.name ++ codes "->") (field.name ++ codes ":") (descriptor p field.ty)) in
+      ap (λ o. o ++ codes "->" ++ field.name ++ codes ":" ++ descriptor p field.ty) name
+      ∙ (ap (λ z. z ++ descriptor p field.ty) (append_assoc (c.name ++ codes "->") field.name (codes ":")) ∙ append_assoc (c.name ++ codes "->") (field.name ++ codes ":") (descriptor p field.ty)) in
       let left = named_leads ids classes asked p fit sound is whole each.0 field.class each.2 in
       let right = named_leads ids classes asked p fit sound is whole c.name n number in
       let member : each.1 ≡ field_within_class p field = same_member each.0 c.name each.1 (field_within_class p field) left right (sym each.3 ∙ full) in
@@ -316,11 +315,11 @@ module _ (file : List ℕ) (ids : Ids) (classes : List RawClass) (asked : Option
       let number : class_named c.name p ≡ Some n = numbered ids classes asked p fit sound is n c.name (mapped_found (λ (z : Class). z.name) p.classes n c at) in
       let same : fields_of p true c.name ≡ statics_from n 0 p.fields = ap (λ o. fields_from 0 o true p.fields) number ∙ same_statics n 0 p.fields in
       subst (λ fs. AllStated p fs c.values) same (all_stated p (fields_of p true c.name) c.values (λ k f v e w.
-          let declared = declared_in p true c.name f (in_place f (fields_of p true c.name) k e) in
-          let owned : is_number (Some n) declared.field.class ≡ true = ap (λ o. is_number o declared.field.class) (sym number) ∙ declared.owned in
-          let of : declared.field.class ≡ n = sym (same_number n declared.field.class owned) in
-          let held : ValueIs ids p (Some declared.field) (value_listed ids classes p c.name (Some declared.field)) v = subst (λ o. ValueIs ids p o (value_listed ids classes p c.name o) v) declared.there (are.each k f v e w) in
-          subst (λ o. StatedIn p o v) (sym declared.there) (value_stated f declared.field n c v declared.there of at held)))
+      let declared = declared_in p true c.name f (in_place f (fields_of p true c.name) k e) in
+      let owned : is_number (Some n) declared.field.class ≡ true = ap (λ o. is_number o declared.field.class) (sym number) ∙ declared.owned in
+      let of : declared.field.class ≡ n = sym (same_number n declared.field.class owned) in
+      let held : ValueIs ids p (Some declared.field) (value_listed ids classes p c.name (Some declared.field)) v = subst (λ o. ValueIs ids p o (value_listed ids classes p c.name o) v) declared.there (are.each k f v e w) in
+      subst (λ o. StatedIn p o v) (sym declared.there) (value_stated f declared.field n c v declared.there of at held)))
 
   pub stated : (class : ℕ) → AllStated p (statics_from class 0 p.fields) (stated_in (slice_get p.classes class))
   unfolding stated_in

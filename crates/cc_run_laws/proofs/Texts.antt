@@ -1,6 +1,6 @@
 -- What the text of a method's name says of its parameters.
-use Rattle.std.proofs.Common.{◌≡◌, ◌⊎◌, inl, inr, ℕ, zero, suc, ◌+◌, ◌<◌, Bool, true, false, eqb, cond, List, [], ◌∷◌, ◌++◌, replicate, map, Option, Some, None, refl, sym, ap, ◌∙◌, subst, arith}
-use Rattle.std.specs.Prelude.{codes, slice_index, slice_index_or}
+use Rattle.std.proofs.Common.{◌≡◌, ℕ, zero, suc, ◌<◌, Bool, true, false, eqb, cond, List, [], ◌∷◌, ◌++◌, replicate, refl, sym, ap, ◌∙◌, subst, arith}
+use Rattle.std.specs.Prelude.{codes, slice_index_or}
 use Rattle.std.specs.List.{flat_map}
 use Rattle.std.proofs.lemmas.Bool.Decides.{nat_tests}
 use Rattle.std.proofs.lemmas.List.{append_assoc, append_cancel_left}
@@ -92,8 +92,8 @@ one_param p name _ _ result back leads all n b Pairs.none e apart_too = absurd (
 one_param p name _ _ result back leads all n b (Pairs.next {x = t} {y = text} {xs = types} {ys = texts} s rest) e apart_too =
     let d : descriptor p t ≡ text = descriptor_by_names p t ∙ s.spelled in
     let long : text ++ (flat_map (descriptor p) types ++ codes ")" ++ result) ≡ name ++ back =
-        sym (ap (λ z. z ++ result) (append_assoc text (flat_map (descriptor p) types) (codes ")")) ∙ append_assoc text (flat_map (descriptor p) types ++ codes ")") result)
-        ∙ (ap (λ z. z ++ flat_map (descriptor p) types ++ codes ")" ++ result) (sym d) ∙ e) in
+    sym (ap (λ z. z ++ result) (append_assoc text (flat_map (descriptor p) types) (codes ")")) ∙ append_assoc text (flat_map (descriptor p) types ++ codes ")") result)
+    ∙ (ap (λ z. z ++ flat_map (descriptor p) types ++ codes ")" ++ result) (sym d) ∙ e) in
     let same : text ≡ name = same_lead text name (flat_map (descriptor p) types ++ codes ")" ++ result) back (all text texts refl) leads long in
     let behind : flat_map (descriptor p) types ++ codes ")" ++ result ≡ back = append_cancel_left name (flat_map (descriptor p) types ++ codes ")" ++ result) back (ap (λ z. z ++ (flat_map (descriptor p) types ++ codes ")" ++ result)) (sym same) ∙ long) in
     let none = no_params p types texts result rest (ap (begins_with 41) behind ∙ b) in

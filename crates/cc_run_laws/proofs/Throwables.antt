@@ -1,10 +1,9 @@
 -- The exceptions that the interpreter raises: their classes are built in, and below Throwable.
-use Rattle.std.proofs.Common.{◌≡◌, ℕ, Bool, true, false, not, ◌&&◌, ◌||◌, cond, List, [], ◌∷◌, ◌++◌, Option, Some, None, refl, sym, ap, ◌∙◌, subst, slice_get}
+use Rattle.std.proofs.Common.{◌≡◌, ℕ, Bool, true, false, not, ◌&&◌, ◌||◌, cond, List, [], ◌∷◌, ◌++◌, Option, Some, refl, sym, ap, ◌∙◌, subst, slice_get}
 use Rattle.std.specs.List.{list_any, AllByRecursion}
 use Rattle.std.specs.Str.{bytes_eq}
 use Rattle.cc_meaning.specs.declared.file.Ids.{Ids}
 use Rattle.cc_meaning.specs.declared.file.RawClass.{RawClass}
-use Rattle.cc_meaning.specs.declared.program.Class.{Class}
 use Rattle.cc_meaning.specs.declared.program.Program.{Program}
 use Rattle.cc_meaning.specs.BuiltIn.{built_in_plain_classes, built_in_throwables, built_in_classes, BuiltInClass, built_in_superclass, is_built_in, is_built_in_throwable, object_name, string_name, string_builder_name, system_name, print_stream_name, throwable_name, exception_name, error_name, runtime_exception_name, arithmetic_exception_name, null_pointer_exception_name, array_store_exception_name, class_cast_exception_name, index_out_of_bounds_exception_name, negative_array_size_exception_name, illegal_argument_exception_name, illegal_state_exception_name, array_index_out_of_bounds_exception_name, string_index_out_of_bounds_exception_name, linkage_error_name, virtual_machine_error_name, no_class_def_found_error_name, exception_in_initializer_error_name, incompatible_class_change_error_name, abstract_method_error_name, stack_overflow_error_name}
 use Rattle.cc_meaning_program.specs.ClassFaults.{AreSound}
@@ -15,14 +14,13 @@ use Rattle.cc_meaning_typing.specs.Code.{string_type, throwable_type, type_of_cl
 use Rattle.cc_meaning_typing.specs.Hierarchy.{object_class, Inherits, itself}
 use Rattle.cc_meaning_typing.specs.Types.{class_type, held_base, held, IsBelow, classes as by_classes}
 use Rattle.cc_meaning_typing.specs.WellTyped.{is_of_file, is_abstract_in_file, is_never_made, can_be_made}
-use Rattle.cc_meaning_fits.specs.Fits.{IsInstanceClass}
 use Rattle.cc_meaning_fits.specs.Premises.{IsRaised, null_pointer, out_of_bounds, array_store, class_cast, abstract_method, incompatible, arithmetic, negative_size, text_bounds, no_class, in_initializer, stack_overflow, Raisable}
-use Rattle.cc_meaning_world.specs.Layouts.{types_of_fields, layout_of, message_types, shape}
+use Rattle.cc_meaning_world.specs.Layouts.{types_of_fields, layout_of, shape}
 use Rattle.cc_meaning_world.specs.Sorts.{number_of}
 use Rattle.cc_program_laws.proofs.Lists.{same_bytes}
 use Rattle.cc_program_laws.proofs.Names.{throwable_in}
 use Rattle.cc_run_laws.proofs.BuiltNames.{builder_in}
-use Rattle.cc_run_laws.proofs.Built.{IsBuilt, built, differ, up}
+use Rattle.cc_run_laws.proofs.Built.{built, differ, up}
 use Rattle.cc_run_laws.proofs.Layouts.{message_first, empty_layout}
 
 -- a built-in class below Throwable, of instances
@@ -112,6 +110,12 @@ illegal_argument_exception = record { built_in = refl; throwable = refl; above =
 illegal_state_exception : IsThrowable illegal_state_exception_name runtime_exception_name
 unfolding built_in_classes built_in_plain_classes built_in_throwables object_name string_name string_builder_name system_name print_stream_name throwable_name exception_name error_name runtime_exception_name arithmetic_exception_name null_pointer_exception_name array_store_exception_name class_cast_exception_name index_out_of_bounds_exception_name negative_array_size_exception_name illegal_argument_exception_name illegal_state_exception_name array_index_out_of_bounds_exception_name string_index_out_of_bounds_exception_name linkage_error_name virtual_machine_error_name no_class_def_found_error_name exception_in_initializer_error_name incompatible_class_change_error_name abstract_method_error_name stack_overflow_error_name
 illegal_state_exception = record { built_in = refl; throwable = refl; above = refl; made = refl; no_builder = refl }
+
+pub exception_throwable : is_built_in_throwable exception_name ≡ true
+exception_throwable = exception.throwable
+
+pub error_throwable : is_built_in_throwable error_name ≡ true
+error_throwable = error.throwable
 
 module _ (p : Program) (whole : IsComplete p) where
   -- its class is below Throwable's

@@ -1,45 +1,40 @@
 -- The types of a file's program: of a built-in name, and of a class that is an array.
-use Rattle.std.proofs.Common.{unwrap_or, ◌≡◌, ◌≢◌, ◌⊎◌, inl, inr, ℕ, zero, suc, ◌<◌, ◌≤◌, Bool, true, false, eqb, ◌||◌, cond, List, [], ◌∷◌, ◌++◌, length, replicate, Option, Some, None, refl, sym, ap, ◌∙◌, subst, arith, slice_get, slice_index_or}
-use Rattle.std.specs.Prelude.{◌==◌, is_some, codes, slice_index, find, if◌then◌else◌}
+use Rattle.std.proofs.Common.{unwrap_or, ◌≡◌, ◌≢◌, ℕ, zero, suc, ◌≤◌, Bool, true, false, eqb, ◌||◌, cond, List, [], ◌∷◌, ◌++◌, replicate, Option, Some, None, refl, sym, ap, ◌∙◌, subst, arith, slice_get, slice_index_or}
+use Rattle.std.specs.Prelude.{is_some, codes, slice_index, find, if◌then◌else◌}
 use Rattle.std.specs.Str.{bytes_eq}
 use Rattle.std.proofs.lemmas.Bool.Decides.{Decides-eqb, nat_tests}
-use Rattle.std.proofs.lemmas.Option.{slice_get_within, get_or_from_slice_get}
+use Rattle.std.proofs.lemmas.Option.{get_or_from_slice_get}
 use Rattle.cc_meaning.specs.declared.file.ClassRow.{ClassRow}
 use Rattle.cc_meaning.specs.declared.file.Ids.{Ids}
 use Rattle.cc_meaning.specs.declared.file.RawClass.{RawClass}
 use Rattle.cc_meaning.specs.declared.program.Base.{Base}
 use Rattle.cc_meaning.specs.declared.program.Base.TheVariants as base
 use Rattle.cc_meaning.specs.declared.program.Class.{Class}
-use Rattle.cc_meaning.specs.declared.program.ClassKind.{ClassKind}
 use Rattle.cc_meaning.specs.declared.program.ClassKind.TheVariants as origin
 use Rattle.cc_meaning.specs.declared.program.DexType.{DexType}
 use Rattle.cc_meaning.specs.declared.program.Program.{Program}
-use Rattle.cc_meaning.specs.BuiltIn.{is_built_in, object_name, string_name, print_stream_name}
+use Rattle.cc_meaning.specs.BuiltIn.{is_built_in}
 use Rattle.cc_meaning.specs.Lookup.{class_named}
 use Rattle.cc_meaning.specs.Names.{name_or_none, class_name, base_descriptor, descriptor}
-use Rattle.cc_meaning.specs.Order.{IsRising}
-use Rattle.cc_meaning_dex.specs.Descriptors.{begins_with, names_class, names_reference}
-use Rattle.cc_meaning_program.specs.Ancestry.{definition_of, is_defined, kind_of_class, outside_kind, is_exception, is_error}
+use Rattle.cc_meaning_dex.specs.Descriptors.{begins_with, names_class}
+use Rattle.cc_meaning_program.specs.Ancestry.{definition_of, is_defined, kind_of_class, outside_kind}
 use Rattle.cc_meaning_program.specs.ClassFaults.{AreSound}
-use Rattle.cc_meaning_program.specs.ClassNames.{base_name, texts_name, IsClassName}
+use Rattle.cc_meaning_program.specs.ClassNames.{texts_name, IsClassName}
 use Rattle.cc_meaning_program.specs.Named.{type_name}
 use Rattle.cc_meaning_program.specs.Programs.{IsProgram}
 use Rattle.cc_meaning_program.specs.Resolved.{names_of}
 use Rattle.cc_meaning_program.specs.Rows.{FitTables}
 use Rattle.cc_meaning_program.specs.TypeNames.{base_spelled, type_spelled, IsBase, Spells}
 use Rattle.cc_meaning_program.proofs.Spelling.{spelled_once}
-use Rattle.cc_meaning_typing.specs.Complete.{IsComplete, BaseStands, TypeStands}
-use Rattle.cc_meaning_typing.specs.Code.{is_array_of, is_array, string_type, brackets, behind_brackets, base_of, type_of_kind, type_of_found, type_of_class}
+use Rattle.cc_meaning_typing.specs.Complete.{IsComplete, BaseStands}
+use Rattle.cc_meaning_typing.specs.Code.{is_array_of, is_array, brackets, behind_brackets, base_of, type_of_kind, type_of_found, type_of_class}
 use Rattle.cc_meaning_typing.specs.Hierarchy.{superclass_in, superclass_of, object_class}
-use Rattle.cc_meaning_typing.specs.Types.{typed, class_type, array_of}
-use Rattle.cc_meaning_exec.specs.Arrays.{array_class}
-use Rattle.cc_meaning_world.specs.Opening.{texts_class}
+use Rattle.cc_meaning_typing.specs.Types.{typed, class_type}
 use Rattle.cc_meaning_world.specs.Sorts.{number_of}
-use Rattle.cc_program_laws.proofs.Hierarchy.{numbered, in_names, class_at}
-use Rattle.cc_program_laws.proofs.Lists.{same_bytes, bytes_differ, some_same, found_is, found_contained, mapped_found}
-use Rattle.cc_program_laws.proofs.Standing.{array_begins, type_stands}
-use Rattle.cc_run_laws.proofs.BuiltNames.{built_in_begins, string_in, stream_in}
-use Rattle.cc_run_laws.proofs.Built.{IsBuilt, built, called_so}
+use Rattle.cc_program_laws.proofs.Hierarchy.{numbered}
+use Rattle.cc_program_laws.proofs.Lists.{same_bytes, bytes_differ, found_is, found_contained, mapped_found}
+use Rattle.cc_run_laws.proofs.BuiltNames.{built_in_begins}
+use Rattle.cc_run_laws.proofs.Built.{built, called_so}
 
 -- ---- names
 
@@ -168,8 +163,8 @@ module _ (ids : Ids) (classes : List RawClass) (asked : Option (List ℕ)) (p : 
       let b = base_is type.base stands in
       let m = more_brackets type.dims (base_descriptor p type.base) (b.0, b.1) in (
         ap (type_of_found p class) c.1 ∙ (ap (λ k. type_of_kind p class k c.0.name) kind
-        ∙ (ap (λ n. typed (brackets n) (base_of p (behind_brackets n))) c.2
-        ∙ (ap (λ n. typed n (base_of p (behind_brackets (descriptor p type)))) m.0 ∙ ap (λ n. typed type.dims n) (ap (base_of p) m.1 ∙ b.2)))),
+            ∙ (ap (λ n. typed (brackets n) (base_of p (behind_brackets n))) c.2
+            ∙ (ap (λ n. typed n (base_of p (behind_brackets (descriptor p type)))) m.0 ∙ ap (λ n. typed type.dims n) (ap (base_of p) m.1 ∙ b.2)))),
         ap superclass_in c.1 ∙ ((whole.classes class c.0 c.1).below.array kind ∙ whole.well_formed.hierarchy.object),
       )
     where
