@@ -187,7 +187,7 @@ pub record IsLinked (p : Program) : Type 0 where
   -- arrays' classes: none is above another class, each has its type's name, and Object alone is above it
   pub plain_type : (name : List ℕ) → IsPlain name → type_of_class p (number_of p name) ≡ class_type (number_of p name)
   pub above_type : (class above : ℕ) → superclass_of p class ≡ Some above → type_of_class p above ≡ class_type above
-  pub array_classes : (type : DexType) (class : ℕ) → is_array type ≡ true → array_class p type ≡ Some class → (type_of_class p class ≡ type) × (superclass_of p class ≡ Some (object_class p))
+  pub array_classes : (array class : ℕ) → is_array (type_of_class p array) ≡ true → array_class p (type_of_class p array) ≡ Some class → (type_of_class p class ≡ type_of_class p array) × (superclass_of p class ≡ Some (object_class p))
   -- each built-in method is one of the table
   pub rows : (m : ℕ) (callee : Method) → slice_get p.methods m ≡ Some callee → callee.kind ≡ kinds.BuiltIn → HasRow p callee
   -- String and StringBuilder are held as themselves, and no class is below them

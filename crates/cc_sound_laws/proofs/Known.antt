@@ -281,14 +281,17 @@ module _ (p : Program) (linked : IsLinked p) where
   below_object_class : (t : DexType) (above : ℕ) → Inherits p (object_class p) above → IsBelow p t (held p (type_of_class p above))
   below_object_class t above h = subst (λ z. IsBelow p t (held p z)) (sym (ap (type_of_class p) (object_inherits h refl) ∙ object_type_is)) (object_held t)
 
-  array_up : (element : DexType) (x : Option ℕ) (above : ℕ) → array_class p (array_of element) ≡ x → Inherits p (unwrap_or x (object_class p)) above → IsBelow p (held p (array_of element)) (held p (type_of_class p above))
-  array_up element None above e h = below_object_class (held p (array_of element)) above h
-  array_up element (Some class) above e h = by h refl
+  array_up : (element : DexType) (array : ℕ) (x : Option ℕ) (above : ℕ) → type_of_class p array ≡ array_of element → array_class p (array_of element) ≡ x → Inherits p (unwrap_or x (object_class p)) above → IsBelow p (held p (array_of element)) (held p (type_of_class p above))
+  array_up element array None above t e h = below_object_class (held p (array_of element)) above h
+  array_up element array (Some class) above t e h = by h refl
     where
+      is : (type_of_class p class ≡ type_of_class p array) × (superclass_of p class ≡ Some (object_class p))
+      is = linked.array_classes array class (ap is_array t ∙ array_is element) (ap (array_class p) t ∙ e)
+
       by : {c : ℕ} → Inherits p c above → c ≡ class → IsBelow p (held p (array_of element)) (held p (type_of_class p above))
-      by itself q = subst (λ z. IsBelow p (held p (array_of element)) (held p z)) (sym (ap (type_of_class p) q ∙ (linked.array_classes (array_of element) class (array_is element) e).0)) same
+      by itself q = subst (λ z. IsBelow p (held p (array_of element)) (held p z)) (sym (ap (type_of_class p) q ∙ (is.0 ∙ t))) same
       by (further {above = next} s g) q =
-          let o = (linked.array_classes (array_of element) class (array_is element) e).1 in
+          let o = is.1 in
           let n : next ≡ object_class p = let z = subst (λ z. superclass_of p z ≡ Some next) q s in cc in
           below_object_class (held p (array_of element)) above (subst (λ z. Inherits p z above) n g)
 
@@ -297,7 +300,7 @@ module _ (p : Program) (linked : IsLinked p) where
   unfolding type_of string_type number_of class_of_type
   sort_up Out above f h = class_up_type _ above (linked.plain print_stream_name print_stream) (linked.plain_type print_stream_name print_stream) h
   sort_up (Instance class fields) above f h = class_up_type class above (made_class (slice_get p.classes class) f.made) f.no_array h
-  sort_up (Array class n) above f h = subst (λ z. IsBelow p (held p z) (held p (type_of_class p above))) (sym f.1) (array_up f.0 (array_class p (array_of f.0)) above refl (subst (λ (z : DexType). Inherits p (class_of_type p z.dims z.base) above) f.1 h))
+  sort_up (Array class n) above f h = subst (λ z. IsBelow p (held p z) (held p (type_of_class p above))) (sym f.1) (array_up f.0 class (array_class p (array_of f.0)) above f.1 refl (subst (λ (z : DexType). Inherits p (class_of_type p z.dims z.base) above) f.1 h))
   sort_up (Text units) above f h = class_up_type _ above (linked.plain string_name string) (linked.plain_type string_name string) h
   sort_up Builder above f h = class_up_type _ above (linked.plain string_builder_name string_builder) (linked.plain_type string_builder_name string_builder) h
   sort_up (Constant made) above f h = class_up_type _ above (subst (λ z. is_file_interface (slice_get p.classes z) ≡ false) (number_object p) (linked.plain object_name object_itself)) object_type_is h

@@ -1,0 +1,14 @@
+pub mod BuiltNames
+pub mod Built
+pub mod Members
+pub mod Layouts
+pub mod Throwables
+pub mod Types
+pub mod RowTexts
+pub mod Signatures
+pub mod Texts
+pub mod Mains
+pub mod Stated
+pub mod Linked
+pub mod Laws
+pub mod Scripts
